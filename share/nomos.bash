@@ -50,13 +50,14 @@ _nomos() {
     COMPREPLY=()
     if [ "${COMP_WORDS[0]##*/}" = nomos ]; then
         if [ "$COMP_CWORD" -eq 1 ]; then
-            mapfile -t COMPREPLY < <(compgen -W 'check run replay bench least' -- "$word")
+            mapfile -t COMPREPLY < <(compgen -W 'check run replay bench least pool talk save resume' -- "$word")
             return
         fi
         case "${COMP_WORDS[1]}:$COMP_CWORD" in
-        check:2 | run:2 | replay:2 | least:2) ;;
-        run:3 | replay:3) wanted='*.script' ;;
-        replay:4) wanted='*' ;;
+        check:2 | run:2 | replay:2 | least:2 | pool:2 | talk:2 | save:2 | resume:2) ;;
+        run:3 | replay:3 | pool:3 | talk:3 | save:3 | resume:4) wanted='*.script' ;;
+        replay:4 | talk:6 | save:4 | resume:3) wanted='*' ;;
+        pool:4) mapfile -t COMPREPLY < <(compgen -W '1 2 3 4 5 6 7 8' -- "$word") && return ;;
         run:*)
             case $before in
             --journal) wanted='*' ;;

@@ -4,7 +4,7 @@
 mod words;
 
 ghost use Rattle.std.specs.Prelude.{map, string_bytes};
-ghost use Rattle.nomos_cli.specs.FileWords.{Names, contract_file, journal_file, kept_file, script_file};
+ghost use Rattle.nomos_cli.specs.FileWords.{Names, contract_file, kept_file, script_file, third_file};
 ghost use Rattle.nomos_due.specs.Outside.{sink_state, source_state};
 ghost use Rattle.nomos_top.specs.Claims.{Claims};
 ghost use Rattle.nomos_top.specs.Turns.{Untouched};
@@ -21,8 +21,8 @@ use std::process::ExitCode;
 use std::sync::Wait;
 use std::thread::Threads;
 
-// What is outside: the files of the contract, of the script and of the journal that is read; the standard output, and
-// the file of the journal that is kept.
+// What is outside: the files of the contract, of the script and of the third text that are read, which is a journal, a
+// snapshot or what is said in a talk; the standard output, and the file in which a journal or a snapshot is kept.
 #[derive(Drop)]
 struct Outside<S: Drop, K: Drop> {
     contract: S,
@@ -40,7 +40,7 @@ fn main(rt: HostRuntime) -> ExitCode {
     let mut outside = Outside {
         contract: FileSource::open(&rt, files.contract),
         script: FileSource::open(&rt, files.script),
-        journal_in: FileSource::open(&rt, files.journal),
+        journal_in: FileSource::open(&rt, files.third),
         out: OutputSink::stdout(&rt, rt.stdout()),
         journal_out: OutputSink::file(&rt, files.kept),
     };
@@ -58,9 +58,9 @@ fn own_words<R: Env + AllocGlobal>(rt: &R) -> Result<Vec<String>, AllocError> {
     }
 }
 
-// Does what the words say, over the files that they name, by a call that is proved to return wherever the words ask for no
-// run by several workers. All is claimed of it that is claimed of the top call, and each file of which it is not the turn
-// is neither read nor written.
+// Does what the words say, over the files that they name, by a call that is proved to return wherever the words ask
+// neither for a run by several workers nor for one whose lines threads submit. All is claimed of it that is claimed of
+// the top call, and each file of which it is not the turn is neither read nor written.
 fn call<
     S: Source + OverFile + Drop,
     K: Sink + OverFile + Drop,
@@ -68,7 +68,7 @@ fn call<
 >(rt: &R, words: &[String], outside: &mut Outside<S, K>) -> Ended
     requires contract { Names contract_file (map string_bytes words.now) (S.word outside.old.contract) }
     requires script { Names script_file (map string_bytes words.now) (S.word outside.old.script) }
-    requires journal_in { Names journal_file (map string_bytes words.now) (S.word outside.old.journal_in) }
+    requires journal_in { Names third_file (map string_bytes words.now) (S.word outside.old.journal_in) }
     requires journal_out { Names kept_file (map string_bytes words.now) (K.word outside.old.journal_out) }
     ensures claims { Claims (record {
       words = map string_bytes words.now;
@@ -84,8 +84,10 @@ fn call<
       status = result.status;
       accepted = result.accepted;
       journal = result.journal;
+      taken = result.taken;
     }) }
-    ensures untouched { Untouched (map string_bytes words.now) (S.left outside.old.script) result.status result.accepted
+    ensures untouched { Untouched (map string_bytes words.now)
+        (record { script = S.left outside.old.script; third = S.left outside.old.journal_in }) result.status result.accepted
         (record {
           contract = outside.old.contract;
           script = outside.old.script;

@@ -164,8 +164,8 @@ text-within accepted size written v journal text is =
 -- ---- replays
 
 -- a script that reads, and what is due of the journal
-pub replay-answered : (a : Acceptance) (script journal : SourceState) (text : List ℕ) (items : List ScriptItem) (due : Due)
-    → HasText script.left text → ReadsAs text items → IsJournalDueFor a items journal due
+pub replay-answered : (a : Acceptance) (script journal : SourceState) (text : List ℕ) (items : List ScriptItem)
+    (due : Due) → HasText script.left text → ReadsAs text items → IsJournalDueFor a items journal due
     → IsReplayDueFor a script journal due
 replay-answered a script journal text items due told reads is = record {
   script_text = text;

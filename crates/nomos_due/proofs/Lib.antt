@@ -3,3 +3,9 @@ mod DueLemmas
 pub mod SourceLemmas
 pub mod ReplayLaws
 pub mod LoadReadsLaws
+mod WholeLemmas
+mod PoolDueLemmas
+mod SnapshotDueLemmas
+mod TalkDueLemmas
+mod TalkCountLaws
+mod TalkRoomLemmas

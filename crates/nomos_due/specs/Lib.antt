@@ -1,6 +1,11 @@
 pub mod Outside
 pub mod Lines
 pub mod Runs
+pub mod Pools
+pub mod TalkDue
+pub mod SnapshotLines
+pub mod Saves
+pub mod Resumes
 pub mod Replays
 pub mod Written
 pub mod Sources

@@ -9,7 +9,7 @@ use nomos_legal::journal::Journal;
 use std::alloc::Global;
 
 /// What is due where memory sufficed: the exit status that stands once all is written, what is to be written to the
-/// output, the text of the journal where it is to be written, and the journal.
+/// output, the text of the journal, or the snapshot, where one is to be kept, and the journal.
 #[derive(Drop, Debug)]
 pub struct Due {
     pub status: u8,

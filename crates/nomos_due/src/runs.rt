@@ -7,13 +7,16 @@ ghost use Rattle.nomos_report.specs.Reported.{run_status};
 ghost use Rattle.nomos_workers.specs.Crews.{IsCrew};
 ghost use Rattle.nomos_due.specs.Finding.{HasRunAs, HasRunPart};
 ghost use Rattle.nomos_due.specs.Outside.{source_state};
+ghost use Rattle.nomos_due.specs.Runs.{usual_orders};
 ghost use Rattle.nomos_due.specs.Sources.{IsRunDueFor, IsRunPartFor};
 
 use crate::due::Due;
 use crate::script::{no_script_due, read_script};
 use nomos_base::Source;
 use nomos_deeds::undo::Undo;
+use nomos_ir::limits::USUAL_LIMIT;
 use nomos_legal::journal::Journal;
+use nomos_machine::policy::Policy;
 use nomos_run::crew::run_script_by_crew;
 use nomos_run::orders::{Orders, Runner, ScriptRun, WholeRun};
 use nomos_run::running::run_script;
@@ -26,8 +29,20 @@ use std::alloc::Global;
 use std::sync::Wait;
 use std::thread::Threads;
 
-// What is due of a run of which all items have passed.
-fn whole_due<M: Undo + Drop>(journal: Journal, whole: WholeRun<M>) -> Due
+/// How a script is run where the words say nothing of that. It takes no memory.
+pub(crate) fn usual_orders() -> Orders
+    ensures { result ≡ usual_orders }
+{
+    Orders {
+        crew: Crew::One(Policy::First),
+        limit: USUAL_LIMIT,
+        text: false,
+        result: false,
+    }
+}
+
+/// What is due of a run of which all items have passed.
+pub(crate) fn whole_due<M: Undo + Drop>(journal: Journal, whole: WholeRun<M>) -> Due
     ensures status { result.status ≡ run_status journal.entries }
     ensures out { result.out ≡ whole.report }
     ensures kept { result.kept ≡ whole.text }
@@ -42,8 +57,8 @@ fn whole_due<M: Undo + Drop>(journal: Journal, whole: WholeRun<M>) -> Due
     }
 }
 
-// What is due of a script that reads, run by one worker.
-fn ran_due<M: Undo + Drop>(
+/// What is due of a script that reads, run by one worker.
+pub(crate) fn ran_due<M: Undo + Drop>(
     orders: Orders,
     alloc: Global,
     accepted: &Accepted,

@@ -1,6 +1,6 @@
 //! What is found of a script, and what is due where there is none.
 
-ghost use Rattle.std.specs.Prelude.{◌≡◌, ℕ, List, ◌++◌, IfOk, IfErr, codes, decimal};
+ghost use Rattle.std.specs.Prelude.{◌≡◌, ℕ, List, ◌++◌, IfOk, IfErr, decimal};
 ghost use Rattle.nomos_due.specs.Finding.{Finds, FindsIn, IsBare, IsBareOf, IsMissing};
 ghost use Rattle.nomos_due.specs.Lines.{no_entries, script_refusal};
 ghost use Rattle.nomos_due.specs.Outside.{FaultCounts, Input, source_state};
@@ -48,22 +48,28 @@ pub(crate) fn read_script<S: Source>(alloc: Global, script: &mut S) -> Result<Sc
     }
 }
 
-// The line of a script that is refused at a line.
-fn syntax_line(alloc: Global, line: u32) -> Result<Vec<u8>, AllocError>
-    ensures { IfOk result (λ text. text.items ≡ script_refusal (codes "Syntax " ++ decimal line)) }
+// The line of a script that is refused for a cause at a line.
+fn refusal_at(alloc: Global, cause: &[u8], line: u32) -> Result<Vec<u8>, AllocError>
+    ensures { IfOk result (λ text. text.items ≡ script_refusal (cause.now ++ decimal line)) }
 {
-    let mut text = Vec::from_slice(alloc, b"script refused Syntax ")?;
+    let mut text = Vec::from_slice(alloc, b"script refused ")?;
+    text.extend_from_slice(cause)?;
     push_number(&mut text, u64::from(line))?;
     text.push(b'\n')?;
     Ok(text)
 }
 
-// What is due of a script that is refused at a line.
-fn syntax_due(alloc: Global, limit: u32, line: u32) -> Result<Due, Journal>
-    ensures ok { IfOk result (λ due. IsBare due 2 (script_refusal (codes "Syntax " ++ decimal line)) limit) }
+/// What is due of a script that is refused for a cause at a line. The cause ends with a blank.
+pub(crate) fn refused_at_due(
+    alloc: Global,
+    limit: u32,
+    cause: &[u8],
+    line: u32,
+) -> Result<Due, Journal>
+    ensures ok { IfOk result (λ due. IsBare due 2 (script_refusal (cause.now ++ decimal line)) limit) }
     ensures err { IfErr result (λ journal. journal ≡ no_entries limit) }
 {
-    match syntax_line(alloc, line) {
+    match refusal_at(alloc, cause, line) {
         Ok(out) => Ok(bare_due(alloc, limit, 2, out)),
         Err(_) => Err(no_entries(alloc, limit)),
     }
@@ -76,7 +82,7 @@ pub(crate) fn no_script_due(alloc: Global, limit: u32, why: NoScript) -> Result<
 {
     match why {
         NoScript::TooLong => line_due(alloc, limit, 2, b"script refused TooLong\n"),
-        NoScript::Syntax(line) => syntax_due(alloc, limit, line),
+        NoScript::Syntax(line) => refused_at_due(alloc, limit, b"Syntax ", line),
         NoScript::ReadFault => line_due(alloc, limit, 5, b"read fault script\n"),
         NoScript::NoMemory => Err(no_entries(alloc, limit)),
     }

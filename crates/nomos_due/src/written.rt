@@ -9,7 +9,7 @@ ghost use Rattle.nomos_due.specs.Written.{HasWrittenOut};
 use crate::due::Due;
 use nomos_base::{Sink, write_all};
 
-// Writes the text of a journal, behind the output.
+// Writes the text of a journal, or a snapshot, behind the output.
 fn write_text<K: Sink>(status: u8, text: &[u8], journal_out: &mut K) -> u8
     ensures { (bytes : List ℕ) (out : SinkState) → out.after ≡ with_end out.before bytes
         → HasWrittenOut status bytes (Some text.now) out
@@ -22,7 +22,7 @@ fn write_text<K: Sink>(status: u8, text: &[u8], journal_out: &mut K) -> u8
     }
 }
 
-// Writes the text of a journal, if there is one, behind the output.
+// Writes the text of a journal, or a snapshot, if there is one, behind the output.
 fn write_kept<K: Sink>(due: &Due, journal_out: &mut K) -> u8
     ensures written { (bytes : List ℕ) (out : SinkState) → out.after ≡ with_end out.before bytes
         → HasWrittenOut due.now.status bytes (kept_text due.now) out
@@ -36,8 +36,8 @@ fn write_kept<K: Sink>(due: &Due, journal_out: &mut K) -> u8
     }
 }
 
-/// Writes what is due: the output, and behind it the text of the journal, if there is one to be written. The status that
-/// stands then is that of what is due, or 6 where a sink failed.
+/// Writes what is due: the output, and behind it the text of the journal, or the snapshot, if one is to be kept. The
+/// status that stands then is that of what is due, or 6 where a sink failed.
 pub fn write_due<K: Sink>(due: &Due, out: &mut K, journal_out: &mut K) -> u8
     ensures written { HasWrittenOut due.now.status due.now.out.items (kept_text due.now)
         (sink_state (K.written out.old) (K.written out.new) (K.faults out.old) (K.faults out.new))

@@ -5,17 +5,17 @@ use Rattle.nomos_due.specs.Outside.{SinkState}
 use Rattle.nomos_due.specs.Sources.{kept_text}
 use Rattle.nomos_top.specs.Seen.{Call, IsDone}
 use Rattle.nomos_top.specs.Outcome.{Inputs, Outcome}
-use Rattle.nomos_top.specs.Tasks.{KeepsJournal}
-use Rattle.nomos_top.specs.Turns.{MayKeep}
+use Rattle.nomos_top.specs.Tasks.{Keeps, ReadsSnapshot, Waits}
+use Rattle.nomos_top.specs.Turns.{MayKeep, MayWait, WantsSnapshot}
 use Rattle.nomos_top.specs.declared.due.CallDue.{CallDue}
 use Rattle.nomos_top.specs.declared.due.DoneSoFar.{DoneSoFar}
 use Rattle.nomos_top.specs.mirror.Judging.{EndsDue, IsDueOn, Sources, inputs_on, outcome_of}
-use Rattle.nomos_top.proofs.EndLaws.{done-status, keeps-or_not}
-use Rattle.nomos_top.proofs.KeptLaws.{further-not_seven}
+use Rattle.nomos_top.proofs.EndLaws.{further-not_seven, keeps-any_or_not}
 use Rattle.nomos_top.proofs.Views.{WordsView, WrittenView, words-view, written-view}
 use Rattle.nomos_top.proofs.Views as view
 use Rattle.nomos_types.specs.Acceptance.{Acceptance}
-use Rattle.nomos_words.specs.Words.{Task, Asks}
+use Rattle.nomos_words.proofs.WordLaws.{one_task}
+use Rattle.nomos_words.specs.Words.{Task, check, run, replay, bench, least, pool, talk, save, resume, Asks}
 
 -- ---- sources
 
@@ -41,28 +41,20 @@ words-not_seven (view.task_asked task asks (view.against (view.unsolved stop h n
 words-not_seven (view.task_asked task asks (view.alone a what alone gives is idle n)) seven = omega (arith, n, seven)
 words-not_seven (view.task_asked task asks (view.behind a what further gives h)) seven = further-not_seven what seven
 
--- a text is kept where the task keeps its journal, and was done
+-- a text is kept where the task keeps one, and was done
 words-keeps : {words : List (List ℕ)} {i : Inputs} {o : Outcome} → WordsView words i o
-    → (o.kept ≡ None) ⊎ ((task : Task) × Asks words task × KeepsJournal task × IsDone o.status)
+    → (o.kept ≡ None) ⊎ ((task : Task) × Asks words task × Keeps task × IsDone o.status)
 words-keeps (view.nothing_asked none idle never n is) = inl idle.kept
 words-keeps (view.task_asked task asks (view.against why idle none)) = inl idle.kept
 words-keeps (view.task_asked task asks (view.alone a what alone gives is idle n)) = inl idle.kept
-words-keeps (view.task_asked task asks (view.behind a (view.script_fault reads rose idle n is) further gives h)) =
-    inl idle.kept
-words-keeps (view.task_asked task asks (view.behind a (view.bad_script reads line bad idle n is) further gives h)) =
-    inl idle.kept
-words-keeps (view.task_asked task asks (view.behind a (view.journal_fault reads rose idle n is) further gives h)) =
-    inl idle.kept
-words-keeps
-    (view.task_asked task asks
-    (view.behind a (view.bad_journal reads items g why answers idle n is) further gives h)) =
+words-keeps (view.task_asked task asks (view.behind a (view.missed status line is idle same out) further gives h)) =
     inl idle.kept
 words-keeps {words} {i} {o} (view.task_asked task asks (view.behind a (view.carried r) further gives h)) =
-    either (keeps-or_not task)
+    either (keeps-any_or_not task)
   where
-    either : KeepsJournal task ⊎ ¬ (KeepsJournal task)
-        → (o.kept ≡ None) ⊎ ((task : Task) × Asks words task × KeepsJournal task × IsDone o.status)
-    either (inl keeps) = inr (task, asks, keeps, subst IsDone (sym r.status) (done-status o.journal.entries))
+    either : Keeps task ⊎ ¬ (Keeps task)
+        → (o.kept ≡ None) ⊎ ((task : Task) × Asks words task × Keeps task × IsDone o.status)
+    either (inl keeps) = inr (task, asks, keeps, r.done)
     either (inr drops) = inl (r.drops drops)
 
 -- the status stands, or a sink failed
@@ -101,7 +93,7 @@ nothing-may_keep c (Ok d) s Same due ends same none never = either (words-keeps 
     status (inr six) done = inr six
 
     either : (kept_text d.due ≡ None)
-        ⊎ ((task : Task) × Asks c.words task × KeepsJournal task × IsDone d.due.status) → Same
+        ⊎ ((task : Task) × Asks c.words task × Keeps task × IsDone d.due.status) → Same
     either (inl kept) = same kept
     either (inr (task, asks, keeps, done)) =
         absurd
@@ -115,4 +107,21 @@ nothing-may_keep c (Ok d) s Same due ends same none never = either (words-keeps 
         ))
 nothing-may_keep c (Err p) s Same due ends same none never = none
 
--- ---- orders
+-- ---- calls that wait
+
+-- no task waits that begins at a snapshot
+waits-none : (task : Task) → Waits task → ReadsSnapshot task → ⊥
+waits-none (check file) waits reads = reads
+waits-none (run file script by steps journal) waits reads = reads
+waits-none (replay file script journal) waits reads = reads
+waits-none (bench seed bidders) waits reads = reads
+waits-none (least file) waits reads = reads
+waits-none (pool file script threads) waits reads = reads
+waits-none (talk file script name proc text) waits reads = reads
+waits-none (save file script snapshot) waits reads = reads
+waits-none (resume file snapshot script) (inl waits) reads = waits
+waits-none (resume file snapshot script) (inr waits) reads = waits
+
+pub waits-no_snapshot : (words : List (List ℕ)) → MayWait words → WantsSnapshot words → ⊥
+waits-no_snapshot words (task, asks, waits) (other, asked, reads) =
+    waits-none task waits (subst ReadsSnapshot (one_task words other task asked asks) reads)

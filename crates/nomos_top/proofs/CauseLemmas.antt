@@ -21,7 +21,7 @@ use Rattle.nomos_top.specs.TaskRuns.{IsGivenFor, HasStopped, HasLeastStopped, Ha
 use Rattle.nomos_types.specs.Acceptance.{Acceptance, acceptance}
 use Rattle.nomos_types.specs.Amount.{Annotations}
 use Rattle.nomos_types.specs.Typed.{IsTypedProgram}
-use Rattle.nomos_words.specs.Words.{Task, check, run, replay, bench, least}
+use Rattle.nomos_words.specs.Words.{Task, check, run, replay, bench, least, pool, talk, save, resume}
 
 -- ---- what a cause rules out
 
@@ -92,6 +92,10 @@ cause-no_stop_for (check file) text v stop cause stopped = cause-no_stop text v 
 cause-no_stop_for (run file script by steps journal) text v stop cause stopped = cause-no_stop text v stop cause stopped
 cause-no_stop_for (replay file script journal) text v stop cause stopped = cause-no_stop text v stop cause stopped
 cause-no_stop_for (bench seed bidders) text v stop cause stopped = cause-no_stop text v stop cause stopped
+cause-no_stop_for (pool file script threads) text v stop cause stopped = cause-no_stop text v stop cause stopped
+cause-no_stop_for (talk file script name proc words) text v stop cause stopped = cause-no_stop text v stop cause stopped
+cause-no_stop_for (save file script snapshot) text v stop cause stopped = cause-no_stop text v stop cause stopped
+cause-no_stop_for (resume file snapshot script) text v stop cause stopped = cause-no_stop text v stop cause stopped
 cause-no_stop_for (least file) text v stop cause stopped = cause-no_least_stop text v stop cause stopped
 
 -- what is accepted has no cause
@@ -117,6 +121,10 @@ given-no_cause (check file) text a v is cause = accepted-no_cause text a v is ca
 given-no_cause (run file script by steps journal) text a v is cause = accepted-no_cause text a v is cause
 given-no_cause (replay file script journal) text a v is cause = accepted-no_cause text a v is cause
 given-no_cause (bench seed bidders) text a v is cause = accepted-no_cause text a v is cause
+given-no_cause (pool file script threads) text a v is cause = accepted-no_cause text a v is cause
+given-no_cause (talk file script name proc words) text a v is cause = accepted-no_cause text a v is cause
+given-no_cause (save file script snapshot) text a v is cause = accepted-no_cause text a v is cause
+given-no_cause (resume file snapshot script) text a v is cause = accepted-no_cause text a v is cause
 given-no_cause (least file) text a v is cause = least-no_cause text is.0 v is.2 cause
 
 -- where the pivot run accepts it has not stopped, and where there are least bounds the least run has not
@@ -141,6 +149,10 @@ given-no_stop (check file) text a stop is stopped = accepted-no_stop text a stop
 given-no_stop (run file script by steps journal) text a stop is stopped = accepted-no_stop text a stop is stopped
 given-no_stop (replay file script journal) text a stop is stopped = accepted-no_stop text a stop is stopped
 given-no_stop (bench seed bidders) text a stop is stopped = accepted-no_stop text a stop is stopped
+given-no_stop (pool file script threads) text a stop is stopped = accepted-no_stop text a stop is stopped
+given-no_stop (talk file script name proc words) text a stop is stopped = accepted-no_stop text a stop is stopped
+given-no_stop (save file script snapshot) text a stop is stopped = accepted-no_stop text a stop is stopped
+given-no_stop (resume file snapshot script) text a stop is stopped = accepted-no_stop text a stop is stopped
 given-no_stop (least file) text a stop is stopped = least-no_stop text is.0 stop is.2 stopped
 
 -- ---- and what is accepted is one
@@ -188,4 +200,8 @@ given-one (check file) text a b h k = accepted-one text a b h k
 given-one (run file script by steps journal) text a b h k = accepted-one text a b h k
 given-one (replay file script journal) text a b h k = accepted-one text a b h k
 given-one (bench seed bidders) text a b h k = accepted-one text a b h k
+given-one (pool file script threads) text a b h k = accepted-one text a b h k
+given-one (talk file script name proc words) text a b h k = accepted-one text a b h k
+given-one (save file script snapshot) text a b h k = accepted-one text a b h k
+given-one (resume file snapshot script) text a b h k = accepted-one text a b h k
 given-one (least file) text a b h k = sym h.1 ∙ (least-same text h.0 k.0 h.2 k.2).0 ∙ k.1

@@ -2,10 +2,13 @@
 use Rattle.nomos_top.proofs.AcceptedLaws.{accepted-is_typed, typed-is_accepted}
 use Rattle.nomos_top.proofs.HeadlineLaws.{accepts-typed, keeps-runs}
 use Rattle.nomos_top.proofs.KeptLaws.{kept-goes_right, kept-is_legal, one-worker_follows}
+use Rattle.nomos_top.proofs.PoolingLaws.{gathers-fairly}
 use Rattle.nomos_top.proofs.RefusingLaws.{refuses-truly}
 use Rattle.nomos_top.proofs.RepeatLaws.{call-repeats}
 use Rattle.nomos_top.proofs.ReplayingLaws.{kept-replays}
 use Rattle.nomos_top.proofs.ShownLaws.{fails-truly, writes-what_is_due}
+use Rattle.nomos_top.proofs.SnapshotLaws.{saves-and_loads}
+use Rattle.nomos_top.proofs.TalksByTypeLaws.{talks-by_type}
 use Rattle.nomos_top.specs.Call.{HasEnded}
 use Rattle.nomos_top.specs.Claims.{Claims}
 use Rattle.nomos_top.specs.Seen.{Call}
@@ -26,6 +29,9 @@ ended-claims c (texts, ends) = record {
   one_worker_follows = one-worker_follows c texts ends;
   writes_what_is_due = writes-what_is_due c texts ends;
   fails_truly = fails-truly c texts ends;
+  gathers_fairly = gathers-fairly c texts ends;
+  talks_by_the_type = talks-by_type c texts ends;
+  saves_and_loads = saves-and_loads c texts ends;
   kept_replays = kept-replays c texts ends;
   repeats = call-repeats c texts ends;
 }

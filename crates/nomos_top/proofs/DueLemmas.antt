@@ -7,9 +7,11 @@ use Rattle.nomos_due.proofs.SourceLemmas.{some_text}
 use Rattle.nomos_due.specs.Benches.{IsBenchDue, IsBenchPart, load_contract}
 use Rattle.nomos_due.specs.Outside.{HasText, HaveRisen, SourceState}
 use Rattle.nomos_due.specs.Replays.{no_journal}
-use Rattle.nomos_due.specs.Runs.{IsRunDue, IsRunPart}
-use Rattle.nomos_due.specs.Sources.{IsReplayDueFor, IsRunDueFor, IsRunPartFor, kept_text}
+use Rattle.nomos_due.specs.Runs.{IsRunDue, IsRunPart, usual_orders}
+use Rattle.nomos_due.specs.Sources.{IsPoolDueFor, IsPoolPartFor, IsReplayDueFor, IsResumeDueFor, IsResumePartFor, IsRunDueFor, IsRunPartFor, IsSaveDueFor, IsTalkDueFor, kept_text}
 use Rattle.nomos_due.specs.declared.due.Due.{Due}
+use Rattle.nomos_due.specs.declared.pools.PoolDue.{PoolDue}
+use Rattle.nomos_due.specs.declared.pools.PoolPart.{PoolPart}
 use Rattle.nomos_least.specs.LeastBounds.{IsLeastAs}
 use Rattle.nomos_least.specs.declared.least.LeastBounds.{LeastBounds}
 use Rattle.nomos_legal.specs.declared.journal.Journal.{Journal}
@@ -29,11 +31,11 @@ use Rattle.nomos_top.specs.declared.due.CallDue.{CallDue}
 use Rattle.nomos_top.specs.declared.due.DoneSoFar.{DoneSoFar}
 use Rattle.nomos_top.specs.declared.judging.Unaccepted.{Unaccepted}
 use Rattle.nomos_top.specs.declared.judging.Unaccepted.TheVariants as unaccepted
-use Rattle.nomos_top.specs.mirror.Judging.{IsAgainst, Judges, JudgesText, IsDueOn, IsDueOut, IsNothing, IsPartOn, IsTaskDueOn, IsTaskPartOn, EndsDue, EndsPart, Sources, behind_of, given_of, inputs_on, outcome_of}
+use Rattle.nomos_top.specs.mirror.Judging.{IsAgainst, Judges, JudgesText, IsDueOn, IsDueOut, IsNothing, IsPartOn, IsTaskDueOn, IsTaskPartOn, EndsDue, EndsPart, IsPooledBehind, IsPooledBehindPart, Sources, behind_of, given_of, inputs_on, outcome_of, pooled_behind_of, taken_of}
 use Rattle.nomos_types.specs.Acceptance.{Acceptance, IsAccepted}
 use Rattle.nomos_words.specs.FindsOne.{FindsOne}
 use Rattle.nomos_words.specs.Usage.{usage_line}
-use Rattle.nomos_words.specs.Words.{Task, check, run, replay, bench, least, Asks}
+use Rattle.nomos_words.specs.Words.{Task, check, run, replay, bench, least, pool, talk, save, resume, Asks}
 use Rattle.nomos_words.specs.declared.workers.Workers.{Workers}
 
 -- ---- texts
@@ -80,6 +82,25 @@ pub behind-given : (a : Acceptance) (due : Result Due Journal) → given_of (beh
 behind-given a (Ok d) = refl
 behind-given a (Err j) = refl
 
+pub behind-untaken : (a : Acceptance) (due : Result Due Journal) → taken_of (behind_of a due) ≡ None
+behind-untaken a (Ok d) = refl
+behind-untaken a (Err j) = refl
+
+-- the same where threads submit
+pub pooled-ok : (a : Acceptance) (threads : ℕ) (script : SourceState) (due : Result PoolDue PoolPart)
+    → IfOk due (IsPoolDueFor a threads script) → IfOk (pooled_behind_of a due) (IsPooledBehind a threads script)
+pooled-ok a threads script (Ok p) h = record { pool = p; is = h; due = refl; taken = refl }
+pooled-ok a threads script (Err p) h = tt
+
+pub pooled-err : (a : Acceptance) (threads : ℕ) (script : SourceState) (due : Result PoolDue PoolPart)
+    → IfErr due (IsPoolPartFor a threads script) → IfErr (pooled_behind_of a due) (IsPooledBehindPart a threads script)
+pooled-err a threads script (Ok p) h = tt
+pooled-err a threads script (Err p) h = record { pool = p; is = h; journal = refl; taken = refl }
+
+pub pooled-given : (a : Acceptance) (due : Result PoolDue PoolPart) → given_of (pooled_behind_of a due) ≡ Some a
+pooled-given a (Ok p) = refl
+pooled-given a (Err p) = refl
+
 -- two facts of a value
 pub if_ok-both : {X E : Type 0} (r : Result X E) (P Q : X → Type 0) → IfOk r P → IfOk r Q → IfOk r (λ x. P x × Q x)
 if_ok-both (Ok x) P Q h k = (h, k)
@@ -87,14 +108,26 @@ if_ok-both (Err e) P Q h k = tt
 
 -- with the program that is given
 pub ok-given : (r : Result CallDue DoneSoFar) (a : Acceptance) (P Q : CallDue → Type 0) → given_of r ≡ Some a
-    → ((d : CallDue) → d.accepted ≡ Some a → P d → Q d) → IfOk r P → IfOk r Q
-ok-given (Ok d) a P Q gives f h = f d gives h
-ok-given (Err e) a P Q gives f h = tt
+    → taken_of r ≡ None → ((d : CallDue) → d.accepted ≡ Some a → d.taken ≡ None → P d → Q d) → IfOk r P → IfOk r Q
+ok-given (Ok d) a P Q gives untaken f h = f d gives untaken h
+ok-given (Err e) a P Q gives untaken f h = tt
 
 pub err-given : (r : Result CallDue DoneSoFar) (a : Acceptance) (P Q : DoneSoFar → Type 0) → given_of r ≡ Some a
+    → taken_of r ≡ None
+    → ((part : DoneSoFar) → part.accepted ≡ Some a → part.taken ≡ None → P part → Q part) → IfErr r P → IfErr r Q
+err-given (Ok d) a P Q gives untaken f h = tt
+err-given (Err e) a P Q gives untaken f h = f e gives untaken h
+
+-- the same where something may be taken
+pub ok-pooled : (r : Result CallDue DoneSoFar) (a : Acceptance) (P Q : CallDue → Type 0) → given_of r ≡ Some a
+    → ((d : CallDue) → d.accepted ≡ Some a → P d → Q d) → IfOk r P → IfOk r Q
+ok-pooled (Ok d) a P Q gives f h = f d gives h
+ok-pooled (Err e) a P Q gives f h = tt
+
+pub err-pooled : (r : Result CallDue DoneSoFar) (a : Acceptance) (P Q : DoneSoFar → Type 0) → given_of r ≡ Some a
     → ((part : DoneSoFar) → part.accepted ≡ Some a → P part → Q part) → IfErr r P → IfErr r Q
-err-given (Ok d) a P Q gives f h = tt
-err-given (Err e) a P Q gives f h = f e gives h
+err-pooled (Ok d) a P Q gives f h = tt
+err-pooled (Err e) a P Q gives f h = f e gives h
 
 -- where nothing was done nothing is given
 pub given-some : (r : Result CallDue DoneSoFar) (a : Acceptance) {A : Type 0} → given_of r ≡ Some a → given_of r ≡ None
@@ -109,7 +142,7 @@ module _ (s : Sources) where
   texts_with text = record {
     contract = text;
     script = (some_text s.script.left).0;
-    journal = (some_text s.journal.left).0;
+    third = (some_text s.third.left).0;
   }
 
   -- what is due for this text of the contract
@@ -119,7 +152,7 @@ module _ (s : Sources) where
     texts = texts_with text;
     contract_told = told;
     script_told = (some_text s.script.left).1;
-    journal_told = (some_text s.journal.left).1;
+    third_told = (some_text s.third.left).1;
     holds = subst (λ (x : Outcome). IsTaskDue (inputs_on s (texts_with text)) task x) (sym same) due;
   }
 
@@ -146,8 +179,8 @@ module _ (s : Sources) where
         texts = texts_with t.0;
         contract_told = t.1;
         script_told = (some_text s.script.left).1;
-        journal_told = (some_text s.journal.left).1;
-        holds = rw (none.accepted, none.journal) (outcome.nothing task);
+        third_told = (some_text s.third.left).1;
+        holds = rw (none.accepted, none.journal, none.taken) (outcome.nothing task);
       }
 
   -- ---- contracts alone
@@ -170,92 +203,203 @@ module _ (s : Sources) where
   pub due-run : (file words : List ℕ) (by : Workers) (steps : ℕ) (kept : Option (List ℕ)) (orders : Orders)
       (text : List ℕ)
       (a : Acceptance) (d : CallDue) → HasText s.contract.left text → IsAcceptedAs text a → d.accepted ≡ Some a
-      → orders ≡ run_orders by steps kept → IsRunDueFor a orders s.script d.due
+      → d.taken ≡ None → orders ≡ run_orders by steps kept → IsRunDueFor a orders s.script d.due
       → IsTaskDueOn s (run file words by steps kept) d
-  due-run file words by steps kept orders text a d told is gives same due =
+  due-run file words by steps kept orders text a d told is gives untaken same due =
       let own = subst
       (λ (o : Orders). IsRunDue a o (record { text = due.text; counts = s.script.counts }) d.due.status d.due.out.items
       (kept_text d.due) d.due.journal) same due.is in
       record {
-        texts = record { contract = text; script = due.text; journal = (some_text s.journal.left).0 };
+        texts = record { contract = text; script = due.text; third = (some_text s.third.left).0 };
         contract_told = told;
         script_told = due.told;
-        journal_told = (some_text s.journal.left).1;
+        third_told = (some_text s.third.left).1;
         holds =
-            rw gives (outcome.ran file words by steps kept a d.due.status d.due.out.items (kept_text d.due)
+            rw (gives, untaken) (outcome.ran file words by steps kept a d.due.status d.due.out.items (kept_text d.due)
             d.due.journal is own);
       }
 
   pub part-run : (file words : List ℕ) (by : Workers) (steps : ℕ) (kept : Option (List ℕ)) (orders : Orders)
       (text : List ℕ)
       (a : Acceptance) (part : DoneSoFar) → HasText s.contract.left text → IsAcceptedAs text a
-      → part.accepted ≡ Some a
+      → part.accepted ≡ Some a → part.taken ≡ None
       → orders ≡ run_orders by steps kept → IsRunPartFor a orders s.script part.journal
       → IsTaskPartOn s (run file words by steps kept) part
-  part-run file words by steps kept orders text a part told is gives same done =
+  part-run file words by steps kept orders text a part told is gives untaken same done =
       let own = subst
       (λ (o : Orders). IsRunPart a o (record { text = done.text; counts = s.script.counts }) part.journal) same
       done.is in
       record {
-        texts = record { contract = text; script = done.text; journal = (some_text s.journal.left).0 };
+        texts = record { contract = text; script = done.text; third = (some_text s.third.left).0 };
         contract_told = told;
         script_told = done.told;
-        journal_told = (some_text s.journal.left).1;
-        holds = rw gives (outcome.run_part file words by steps kept a part.journal is own);
+        third_told = (some_text s.third.left).1;
+        holds = rw (gives, untaken) (outcome.run_part file words by steps kept a part.journal is own);
       }
 
   pub due-replay : (file script journal text : List ℕ) (a : Acceptance) (d : CallDue) → HasText s.contract.left text
-      → IsAcceptedAs text a → d.accepted ≡ Some a → IsReplayDueFor a s.script s.journal d.due
+      → IsAcceptedAs text a → d.accepted ≡ Some a → d.taken ≡ None → IsReplayDueFor a s.script s.third d.due
       → IsTaskDueOn s (replay file script journal) d
-  due-replay file script journal text a d told is gives due = record {
-    texts = record { contract = text; script = due.script_text; journal = due.text };
+  due-replay file script journal text a d told is gives untaken due = record {
+    texts = record { contract = text; script = due.script_text; third = due.text };
     contract_told = told;
     script_told = due.script_told;
-    journal_told = due.told;
+    third_told = due.told;
     holds =
-        rw (gives, due.nothing_kept)
+        rw (gives, untaken, due.nothing_kept)
         (outcome.replayed file script journal a d.due.status d.due.out.items d.due.journal is due.is);
   }
 
   pub part-replay : (file script journal text : List ℕ) (a : Acceptance) (part : DoneSoFar)
-      → HasText s.contract.left text → IsAcceptedAs text a → part.accepted ≡ Some a → part.journal ≡ no_journal
+      → HasText s.contract.left text → IsAcceptedAs text a → part.accepted ≡ Some a → part.taken ≡ None
+      → part.journal ≡ no_journal
       → IsTaskPartOn s (replay file script journal) part
-  part-replay file script journal text a part told is gives none = record {
+  part-replay file script journal text a part told is gives untaken none = record {
     texts = texts_with text;
     contract_told = told;
     script_told = (some_text s.script.left).1;
-    journal_told = (some_text s.journal.left).1;
-    holds = rw (gives, none) (outcome.replay_part file script journal a is);
+    third_told = (some_text s.third.left).1;
+    holds = rw (gives, untaken, none) (outcome.replay_part file script journal a is);
   }
 
   pub due-bench : (seed bidders : ℕ) (a : Acceptance) (d : CallDue) → IsAcceptedAs load_contract a
-      → d.accepted ≡ Some a → kept_text d.due ≡ None
+      → d.accepted ≡ Some a → d.taken ≡ None → kept_text d.due ≡ None
       → IsBenchDue a bench_orders (record { seed = seed; bidders = bidders }) d.due.status d.due.out.items d.due.journal
       → IsTaskDueOn s (bench seed bidders) d
-  due-bench seed bidders a d is gives none due =
+  due-bench seed bidders a d is gives untaken none due =
       let t = some_text s.contract.left in
       record {
         texts = texts_with t.0;
         contract_told = t.1;
         script_told = (some_text s.script.left).1;
-        journal_told = (some_text s.journal.left).1;
+        third_told = (some_text s.third.left).1;
         holds =
-            rw (gives, none) (outcome.benched seed bidders a d.due.status d.due.out.items d.due.journal is due);
+            rw (gives, untaken, none) (outcome.benched seed bidders a d.due.status d.due.out.items d.due.journal is due);
       }
 
   pub part-bench : (seed bidders : ℕ) (a : Acceptance) (part : DoneSoFar) → IsAcceptedAs load_contract a
-      → part.accepted ≡ Some a
+      → part.accepted ≡ Some a → part.taken ≡ None
       → IsBenchPart a bench_orders (record { seed = seed; bidders = bidders }) part.journal
       → IsTaskPartOn s (bench seed bidders) part
-  part-bench seed bidders a part is gives done =
+  part-bench seed bidders a part is gives untaken done =
       let t = some_text s.contract.left in
       record {
         texts = texts_with t.0;
         contract_told = t.1;
         script_told = (some_text s.script.left).1;
-        journal_told = (some_text s.journal.left).1;
-        holds = rw gives (outcome.bench_part seed bidders a part.journal is done);
+        third_told = (some_text s.third.left).1;
+        holds = rw (gives, untaken) (outcome.bench_part seed bidders a part.journal is done);
       }
+
+  -- ---- scripts whose single lines threads submit
+
+  pub due-pool : (file words : List ℕ) (threads : ℕ) (text : List ℕ) (a : Acceptance) (d : CallDue)
+      → HasText s.contract.left text → IsAcceptedAs text a → d.accepted ≡ Some a → IsPooledBehind a threads s.script d
+      → IsTaskDueOn s (pool file words threads) d
+  due-pool file words threads text a d told is gives made =
+      let due = made.is in
+      record {
+        texts = record { contract = text; script = due.text; third = (some_text s.third.left).0 };
+        contract_told = told;
+        script_told = due.told;
+        third_told = (some_text s.third.left).1;
+        holds =
+            rw (gives, made.taken, made.due, due.nothing_kept)
+            (outcome.pooled file words threads a made.pool.due.status made.pool.due.out.items made.pool.due.journal
+            made.pool.taken is due.is);
+      }
+
+  pub part-pool : (file words : List ℕ) (threads : ℕ) (text : List ℕ) (a : Acceptance) (part : DoneSoFar)
+      → HasText s.contract.left text → IsAcceptedAs text a → part.accepted ≡ Some a
+      → IsPooledBehindPart a threads s.script part → IsTaskPartOn s (pool file words threads) part
+  part-pool file words threads text a part told is gives made =
+      let done = made.is in
+      record {
+        texts = record { contract = text; script = done.text; third = (some_text s.third.left).0 };
+        contract_told = told;
+        script_told = done.told;
+        third_told = (some_text s.third.left).1;
+        holds =
+            rw (gives, made.journal, made.taken)
+            (outcome.pool_part file words threads a made.pool.journal made.pool.taken is done.is);
+      }
+
+  -- ---- talks
+
+  pub due-talk : (file words name proc talk_file text : List ℕ) (a : Acceptance) (d : CallDue)
+      → HasText s.contract.left text → IsAcceptedAs text a → d.accepted ≡ Some a → d.taken ≡ None
+      → IsTalkDueFor a name proc s.script s.third d.due → IsTaskDueOn s (talk file words name proc talk_file) d
+  due-talk file words name proc talk_file text a d told is gives untaken due = record {
+    texts = record { contract = text; script = due.script_text; third = due.text };
+    contract_told = told;
+    script_told = due.script_told;
+    third_told = due.told;
+    holds =
+        rw (gives, untaken, due.nothing_kept)
+        (outcome.talked file words name proc talk_file a d.due.status d.due.out.items d.due.journal is due.is);
+  }
+
+  pub part-talk : (file words name proc talk_file text : List ℕ) (a : Acceptance) (part : DoneSoFar)
+      → HasText s.contract.left text → IsAcceptedAs text a → part.accepted ≡ Some a → part.taken ≡ None
+      → IsRunPartFor a usual_orders s.script part.journal
+      → IsTaskPartOn s (talk file words name proc talk_file) part
+  part-talk file words name proc talk_file text a part told is gives untaken done = record {
+    texts = record { contract = text; script = done.text; third = (some_text s.third.left).0 };
+    contract_told = told;
+    script_told = done.told;
+    third_told = (some_text s.third.left).1;
+    holds = rw (gives, untaken) (outcome.talk_part file words name proc talk_file a part.journal is done.is);
+  }
+
+  -- ---- snapshots
+
+  pub due-save : (file words kept text : List ℕ) (a : Acceptance) (d : CallDue) → HasText s.contract.left text
+      → IsAcceptedAs text a → d.accepted ≡ Some a → d.taken ≡ None → IsSaveDueFor a s.script d.due
+      → IsTaskDueOn s (save file words kept) d
+  due-save file words kept text a d told is gives untaken due = record {
+    texts = record { contract = text; script = due.text; third = (some_text s.third.left).0 };
+    contract_told = told;
+    script_told = due.told;
+    third_told = (some_text s.third.left).1;
+    holds =
+        rw (gives, untaken)
+        (outcome.saved file words kept a d.due.status d.due.out.items (kept_text d.due) d.due.journal is due.is);
+  }
+
+  pub part-save : (file words kept text : List ℕ) (a : Acceptance) (part : DoneSoFar) → HasText s.contract.left text
+      → IsAcceptedAs text a → part.accepted ≡ Some a → part.taken ≡ None
+      → IsRunPartFor a usual_orders s.script part.journal → IsTaskPartOn s (save file words kept) part
+  part-save file words kept text a part told is gives untaken done = record {
+    texts = record { contract = text; script = done.text; third = (some_text s.third.left).0 };
+    contract_told = told;
+    script_told = done.told;
+    third_told = (some_text s.third.left).1;
+    holds = rw (gives, untaken) (outcome.save_part file words kept a part.journal is done.is);
+  }
+
+  pub due-resume : (file kept words text : List ℕ) (a : Acceptance) (d : CallDue) → HasText s.contract.left text
+      → IsAcceptedAs text a → d.accepted ≡ Some a → d.taken ≡ None → IsResumeDueFor a s.third s.script d.due
+      → IsTaskDueOn s (resume file kept words) d
+  due-resume file kept words text a d told is gives untaken due = record {
+    texts = record { contract = text; script = due.script_text; third = due.text };
+    contract_told = told;
+    script_told = due.script_told;
+    third_told = due.told;
+    holds =
+        rw (gives, untaken, due.nothing_kept)
+        (outcome.resumed file kept words a d.due.status d.due.out.items d.due.journal is due.is);
+  }
+
+  pub part-resume : (file kept words text : List ℕ) (a : Acceptance) (part : DoneSoFar) → HasText s.contract.left text
+      → IsAcceptedAs text a → part.accepted ≡ Some a → part.taken ≡ None
+      → IsResumePartFor a s.third s.script part.journal → IsTaskPartOn s (resume file kept words) part
+  part-resume file kept words text a part told is gives untaken done = record {
+    texts = record { contract = text; script = done.script_text; third = done.text };
+    contract_told = told;
+    script_told = done.script_told;
+    third_told = done.told;
+    holds = rw (gives, untaken) (outcome.resume_part file kept words a part.journal is done.is);
+  }
 
   -- ---- words
 
@@ -267,7 +411,7 @@ module _ (s : Sources) where
         texts = texts_with t.0;
         contract_told = t.1;
         script_told = (some_text s.script.left).1;
-        journal_told = (some_text s.journal.left).1;
+        third_told = (some_text s.third.left).1;
         holds =
             subst (λ (x : Outcome). outcome.IsDue words (inputs_on s (texts_with t.0)) x) (sym same)
             (outcome.usage none);
@@ -281,8 +425,8 @@ module _ (s : Sources) where
         texts = texts_with t.0;
         contract_told = t.1;
         script_told = (some_text s.script.left).1;
-        journal_told = (some_text s.journal.left).1;
-        holds = rw (nothing.accepted, nothing.journal) (outcome.no_task none);
+        third_told = (some_text s.third.left).1;
+        holds = rw (nothing.accepted, nothing.journal, nothing.taken) (outcome.no_task none);
       }
 
   pub due-asked : (words : List (List ℕ)) (task : Task) (d : CallDue) → Asks words task → IsTaskDueOn s task d
@@ -291,7 +435,7 @@ module _ (s : Sources) where
     texts = due.texts;
     contract_told = due.contract_told;
     script_told = due.script_told;
-    journal_told = due.journal_told;
+    third_told = due.third_told;
     holds = outcome.asked task (outcome_of d) asks due.holds;
   }
 
@@ -301,8 +445,8 @@ module _ (s : Sources) where
     texts = done.texts;
     contract_told = done.contract_told;
     script_told = done.script_told;
-    journal_told = done.journal_told;
-    holds = outcome.asked_part task part.accepted part.journal asks done.holds;
+    third_told = done.third_told;
+    holds = outcome.asked_part task part.accepted part.journal part.taken asks done.holds;
   }
 
 -- ---- calls
@@ -315,7 +459,7 @@ found-none words found finds none =
 
 -- how a call ends of which this is due
 pub call-ends : (c : Call) (r : Result CallDue DoneSoFar) (s : Sources) → s.contract ≡ c.contract → s.script ≡ c.script
-    → s.journal ≡ c.journal_in → ((a : Acceptance) → c.accepted ≡ Some a → IsAccepted a)
+    → s.third ≡ c.journal_in → ((a : Acceptance) → c.accepted ≡ Some a → IsAccepted a)
     → IfOk r (IsDueOn s c.words) → IfErr r (IsPartOn s c.words) → IfOk r (EndsDue c) → IfErr r (EndsPart c)
     → HasEnded c
 call-ends c (Ok d) s e f g fits due part ends other = (
@@ -325,7 +469,7 @@ call-ends c (Ok d) s e f g fits due part ends other = (
         record {
           contract = subst (λ (x : SourceState). HasText x.left due.texts.contract) e due.contract_told;
           script = subst (λ (x : SourceState). HasText x.left due.texts.script) f due.script_told;
-          journal = subst (λ (x : SourceState). HasText x.left due.texts.journal) g due.journal_told;
+          third = subst (λ (x : SourceState). HasText x.left due.texts.third) g due.third_told;
         };
     fits = fits;
     ends =
@@ -333,7 +477,7 @@ call-ends c (Ok d) s e f g fits due part ends other = (
           status = d.due.status;
           out = d.due.out.items;
           kept = kept_text d.due;
-          due = rw (sym e, sym f, sym g, ends.accepted, ends.journal) due.holds;
+          due = rw (sym e, sym f, sym g, ends.accepted, ends.journal, ends.taken) due.holds;
           written = ends.written;
         });
   },
@@ -345,7 +489,7 @@ call-ends c (Err p) s e f g fits due part other ends = (
         record {
           contract = subst (λ (x : SourceState). HasText x.left part.texts.contract) e part.contract_told;
           script = subst (λ (x : SourceState). HasText x.left part.texts.script) f part.script_told;
-          journal = subst (λ (x : SourceState). HasText x.left part.texts.journal) g part.journal_told;
+          third = subst (λ (x : SourceState). HasText x.left part.texts.third) g part.third_told;
         };
     fits = fits;
     ends =
@@ -353,7 +497,7 @@ call-ends c (Err p) s e f g fits due part other ends = (
           status = ends.status;
           out = ends.out;
           journal_out = ends.journal_out;
-          part = rw (sym e, sym f, sym g, ends.accepted, ends.journal) part.holds;
+          part = rw (sym e, sym f, sym g, ends.accepted, ends.journal, ends.taken) part.holds;
         });
   },
 )

@@ -5,9 +5,10 @@ use Rattle.nomos_accept.proofs.AcceptLaws.{one-program}
 use Rattle.nomos_accept.specs.TypedText.{IsTypedAs}
 use Rattle.nomos_ir.specs.declared.lists.ProgramLists.{ProgramLists}
 use Rattle.nomos_script.specs.declared.item.ScriptItem.{ScriptItem}
-use Rattle.nomos_legal.specs.Legal.{Tells}
-use Rattle.nomos_top.proofs.AcceptedLaws.{end-sound, further-status, task-view}
-use Rattle.nomos_top.proofs.EndLaws.{done-not}
+use Rattle.nomos_legal.specs.Legal.{TellsFrom}
+use Rattle.nomos_top.proofs.AcceptedLaws.{end-sound, task-view}
+use Rattle.nomos_top.proofs.EndLaws.{further-not_one}
+use Rattle.nomos_top.proofs.StatusLaws.{done-not}
 use Rattle.nomos_top.proofs.KeptLaws.{FollowsSome, end-part, kept-goes_right, kept-is_legal, words-told}
 use Rattle.nomos_top.proofs.Views.{DueView, EndView, end-view}
 use Rattle.nomos_top.proofs.Views as view
@@ -21,7 +22,7 @@ use Rattle.nomos_top.specs.Tasks.{IsAlone, contract_of}
 use Rattle.nomos_types.specs.Acceptance.{Acceptance}
 use Rattle.nomos_types.specs.Amount.{Annotations}
 use Rattle.nomos_words.proofs.WordLaws.{one_task}
-use Rattle.nomos_words.specs.Words.{Task, check, run, replay, bench, least, Asks}
+use Rattle.nomos_words.specs.Words.{Task, check, run, replay, bench, least, pool, talk, save, resume, Asks}
 
 -- ---- what is accepted
 
@@ -32,6 +33,10 @@ given-typed (check file) text a h = h.typed
 given-typed (run file script by steps journal) text a h = h.typed
 given-typed (replay file script journal) text a h = h.typed
 given-typed (bench seed bidders) text a h = h.typed
+given-typed (pool file script threads) text a h = h.typed
+given-typed (talk file script name proc words) text a h = h.typed
+given-typed (save file script snapshot) text a h = h.typed
+given-typed (resume file snapshot script) text a h = h.typed
 given-typed (least file) text a (b, same, h) =
     subst (λ (x : Acceptance). IsTypedAs text x.program x.annotations) same h.typed
 
@@ -67,7 +72,7 @@ due-complete (view.against (view.unsolved stop w n is) idle none) lists x typed 
 due-complete {i} {task} {o} (view.alone a what alone gives is idle n) lists x typed =
     (λ e. omega (arith, e, n), inl (program-given i task o a gives is lists x typed))
 due-complete {i} {task} {o} (view.behind a what further gives is) lists x typed =
-    ((further-status what).0, inl (program-given i task o a gives is lists x typed))
+    (further-not_one what, inl (program-given i task o a gives is lists x typed))
 
 is-complete : (c : Call) (t : Texts) → EndView c t → (task : Task) (lists : ProgramLists) (x : Annotations)
     → Asks c.words task → IsTypedAs (contract_of task t.contract) lists x
@@ -102,13 +107,17 @@ whole-course c t r = record {
   asks = r.asks;
   a = r.a;
   gives = r.gives;
+  first = r.first;
+  begins = r.begins;
   items = r.items;
-  reads = r.reads;
+  script = r.script;
   count = length r.items;
   whole = λ done. refl;
   passages = r.passages;
   last = r.last;
-  tells = subst (λ (xs : List ScriptItem). Tells r.a xs c.journal r.passages r.last) (sym (take-length r.items)) r.tells;
+  tells =
+      subst (λ (xs : List ScriptItem). TellsFrom r.a r.first xs c.journal r.passages r.last)
+      (sym (take-length r.items)) r.tells;
 }
 
 -- so are some first items of one, where memory was wanting
@@ -118,8 +127,10 @@ part-course c t seven r = record {
   asks = r.asks;
   a = r.a;
   gives = r.gives;
+  first = r.first;
+  begins = r.begins;
   items = r.items;
-  reads = r.reads;
+  script = r.script;
   count = r.count;
   whole = λ done. absurd (done-not c.status 7 done (λ z. omega (arith, z)) (λ z. omega (arith, z)) seven);
   passages = r.passages;
@@ -166,5 +177,7 @@ pub keeps-runs : (c : Call) (t : Texts) → EndsOn c t → KeepsRuns c t
 keeps-runs c t e = record {
   done = λ done. done-course c t e done;
   kept = is-kept c t (end-view c t e);
-  right = λ k. (kept-goes_right c t e).right k.a (take k.count k.items) k.passages k.last k.gives k.tells;
+  right = λ k.
+      (kept-goes_right c t e).right k.task k.a k.first (take k.count k.items) k.passages k.last k.asks k.gives k.begins
+      k.tells;
 }

@@ -3,31 +3,32 @@ use Rattle.std.proofs.Common.{◌≡◌, ◌≢◌, ◌∙◌, ◌⊎◌, inl, i
 use Rattle.std.proofs.lemmas.List.Elements.{All-nil, All-cons}
 use Rattle.std.specs.Option.{option_to_list}
 use Rattle.nomos_due.specs.Outside.{HaveRisen}
-use Rattle.nomos_legal.proofs.DepositLaws.{front-deposits, tells-deposits}
-use Rattle.nomos_legal.proofs.RightLaws.{legal-right}
+use Rattle.nomos_legal.proofs.DepositLaws.{front-deposits-from, tells-deposits-from}
+use Rattle.nomos_legal.proofs.RightLaws.{legal-right-from}
 use Rattle.nomos_legal.proofs.UniqueLaws.{tells-one}
-use Rattle.nomos_legal.specs.Legal.{FollowPolicy, PassesBy, Tells, entries_of}
+use Rattle.nomos_legal.specs.Ledger.{LedgerState}
+use Rattle.nomos_legal.specs.Legal.{FollowPolicy, PassesBy, TellsFrom, entries_of}
 use Rattle.nomos_legal.specs.Passage.{Passage}
 use Rattle.nomos_legal.specs.declared.journal.Entry.{Entry}
 use Rattle.nomos_machine.specs.declared.policy.Policy.{Policy}
-use Rattle.nomos_report.specs.Reported.{run_status}
-use Rattle.nomos_script.proofs.ReadingLaws.{reads_once}
-use Rattle.nomos_script.specs.ScriptReading.{ReadsAs}
 use Rattle.nomos_script.specs.declared.item.ScriptItem.{ScriptItem}
 use Rattle.nomos_top.specs.Call.{EndsOn, inputs_of, outcome_with}
 use Rattle.nomos_top.specs.Seen.{Call, Texts, Gives, IsDone}
 use Rattle.nomos_top.specs.Complete.{HasReport}
-use Rattle.nomos_top.specs.Headline.{HasNoEntry}
+use Rattle.nomos_top.specs.Headline.{BeginsAt, HasNoEntry, IsScriptOf}
 use Rattle.nomos_top.specs.Kept.{CarriesOut, CarriesOutSome, KeptGoesRight, KeptIsLegal, OneWorkerFollows, SourceFailed}
-use Rattle.nomos_top.specs.Outcome.{Inputs, Outcome}
 use Rattle.nomos_top.specs.TaskRuns.{IsByOne, IsGivenFor}
 use Rattle.nomos_top.specs.Tasks.{AskNothing, IsAlone, contract_of, script_of}
 use Rattle.nomos_top.proofs.AcceptedLaws.{due-reported, task-view}
-use Rattle.nomos_top.proofs.EndLaws.{done-not, done-status, whole-done, whole-of}
+use Rattle.nomos_top.proofs.EndLaws.{further-not_seven, missed-status, whole-done, whole-of}
+use Rattle.nomos_top.proofs.LoadedLaws.{begins-standing}
+use Rattle.nomos_top.proofs.OneDueLaws.{begins-one, script-one}
+use Rattle.nomos_top.proofs.StatusLaws.{done-not, missed-undone}
 use Rattle.nomos_top.proofs.Views.{Carried, CarriedSome, Further, DueView, PartView, WordsView, Whole, EndView, end-view}
 use Rattle.nomos_top.proofs.Views as view
-use Rattle.nomos_types.specs.Acceptance.{Acceptance}
+use Rattle.nomos_types.specs.Acceptance.{Acceptance, IsAccepted}
 use Rattle.nomos_words.proofs.WordLaws.{one_task}
+use Rattle.nomos_words.specs.Commands.{row}
 use Rattle.nomos_words.specs.Words.{Task, Asks}
 
 -- ---- what was carried out
@@ -41,22 +42,15 @@ carries c t task status out kept a asks gives r = record {
   scripted = r.scripted;
   a = a;
   gives = gives;
+  first = r.first;
+  begins = r.begins;
   items = r.items;
-  reads = r.reads;
+  script = r.script;
   passages = r.passages;
   last = r.last;
   tells = r.tells;
   own = r.own;
 }
-
-pub further-not_seven : {i : Inputs} {task : Task} {o : Outcome} {a : Acceptance} → Further i task o a → o.status ≢ 7
-further-not_seven (view.script_fault reads rose idle n is) e = omega (arith, e, n)
-further-not_seven (view.bad_script reads line bad idle n is) e = omega (arith, e, n)
-further-not_seven (view.journal_fault reads rose idle n is) e = omega (arith, e, n)
-further-not_seven (view.bad_journal reads items h why answers idle n is) e = omega (arith, e, n)
-further-not_seven {o = o} (view.carried r) e =
-    done-not (run_status o.journal.entries) 7 (done-status o.journal.entries) (λ z. omega (arith, z))
-    (λ z. omega (arith, z)) (sym r.status ∙ e)
 
 -- a case of what was due, for its journal: it has no entry, or all was carried out
 abbrev Told : Call → Texts → ℕ → List ℕ → Option (List ℕ) → Task → Type 0
@@ -67,11 +61,7 @@ Told c t status out kept task =
 further-told : (c : Call) (t : Texts) (status : ℕ) (out : List ℕ) (kept : Option (List ℕ)) (task : Task)
     (a : Acceptance) → Gives c a → Further (inputs_of c t) task (outcome_with c status out kept) a
     → Told c t status out kept task
-further-told c t status out kept task a gives (view.script_fault reads rose idle n is) = inl idle.entries
-further-told c t status out kept task a gives (view.bad_script reads line bad idle n is) = inl idle.entries
-further-told c t status out kept task a gives (view.journal_fault reads rose idle n is) = inl idle.entries
-further-told c t status out kept task a gives (view.bad_journal reads items h why answers idle n is) =
-    inl idle.entries
+further-told c t status out kept task a gives (view.missed s line is idle same o) = inl idle.entries
 further-told c t status out kept task a gives (view.carried r) = inr (a, gives, r)
 
 due-told : (c : Call) (t : Texts) (status : ℕ) (out : List ℕ) (kept : Option (List ℕ)) (task : Task)
@@ -95,14 +85,8 @@ words-told c t status out kept (view.task_asked task asks due) = either (due-tol
 further-done : (c : Call) (t : Texts) (out : List ℕ) (kept : Option (List ℕ)) (task : Task) (a : Acceptance)
     → IsDone c.status → Further (inputs_of c t) task (outcome_with c c.status out kept) a
     → Carried (inputs_of c t) task (outcome_with c c.status out kept) a
-further-done c t out kept task a done (view.script_fault reads rose idle n is) =
-    absurd (done-not c.status 5 done (λ z. omega (arith, z)) (λ z. omega (arith, z)) n)
-further-done c t out kept task a done (view.bad_script reads line bad idle n is) =
-    absurd (done-not c.status 2 done (λ z. omega (arith, z)) (λ z. omega (arith, z)) n)
-further-done c t out kept task a done (view.journal_fault reads rose idle n is) =
-    absurd (done-not c.status 5 done (λ z. omega (arith, z)) (λ z. omega (arith, z)) n)
-further-done c t out kept task a done (view.bad_journal reads items h why answers idle n is) =
-    absurd (done-not c.status 9 done (λ z. omega (arith, z)) (λ z. omega (arith, z)) n)
+further-done c t out kept task a done (view.missed s line is idle same o) =
+    absurd (missed-undone (missed-status is) same done)
 further-done c t out kept task a done (view.carried r) = r
 
 -- what was done where all was written: the contract alone was asked about, or the script was carried out
@@ -167,15 +151,17 @@ legal-with_unwritten c t (view.wanting m) six =
 -- ---- with 7
 
 carries-some : (c : Call) (t : Texts) (task : Task) (a : Acceptance) → Asks c.words task → Gives c a
-    → CarriedSome (inputs_of c t) task c.journal a → CarriesOutSome c t
+    → CarriedSome (inputs_of c t) task c.journal c.taken a → CarriesOutSome c t
 carries-some c t task a asks gives r = record {
   task = task;
   asks = asks;
   runs = r.runs;
   a = a;
   gives = gives;
+  first = r.first;
+  begins = r.begins;
   items = r.items;
-  reads = r.reads;
+  script = r.script;
   count = r.count;
   passages = r.passages;
   last = r.last;
@@ -187,11 +173,11 @@ abbrev pub FollowsSome : Call → Texts → Type 0
 FollowsSome c t = (run : CarriesOutSome c t) × ((policy : Policy) → IsByOne run.task policy
     → FollowPolicy policy run.a run.passages)
 
-part-told : (c : Call) (t : Texts) → PartView c.words (inputs_of c t) c.accepted c.journal
+part-told : (c : Call) (t : Texts) → PartView c.words (inputs_of c t) c.accepted c.journal c.taken
     → HasNoEntry c ⊎ FollowsSome c t
 unfolding carries-some
-part-told c t (view.nothing none entries) = inl entries
-part-told c t (view.some task a asks further gives is (inl entries)) = inl entries
+part-told c t (view.nothing none unbegun) = inl unbegun.entries
+part-told c t (view.some task a asks further gives is (inl unbegun)) = inl unbegun.entries
 part-told c t (view.some task a asks further gives is (inr r)) =
     inr (carries-some c t task a asks gives r, r.follows)
 
@@ -218,18 +204,9 @@ legal-nothing c t ends undone six seven =
     none w (view.nothing_asked silent idle void four is) = idle.entries
     none w (view.task_asked task asks (view.against why idle void)) = idle.entries
     none w (view.task_asked task asks (view.alone a what alone gives is idle n)) = idle.entries
-    none w (view.task_asked task asks (view.behind a (view.script_fault reads rose idle n is) further gives h)) =
+    none w (view.task_asked task asks (view.behind a (view.missed status line is idle same o) further gives h)) =
         idle.entries
-    none w (view.task_asked task asks (view.behind a (view.bad_script reads line bad idle n is) further gives h)) =
-        idle.entries
-    none w (view.task_asked task asks (view.behind a (view.journal_fault reads rose idle n is) further gives h)) =
-        idle.entries
-    none w
-        (view.task_asked task asks
-        (view.behind a (view.bad_journal reads items g why answers idle n is) further gives h)) =
-        idle.entries
-    none w (view.task_asked task asks (view.behind a (view.carried r) further gives h)) =
-        absurd (undone (subst IsDone (sym r.status) (done-status c.journal.entries)))
+    none w (view.task_asked task asks (view.behind a (view.carried r) further gives h)) = absurd (undone r.done)
 
 -- where the contract alone is asked about
 alone-words : (c : Call) (t : Texts) (status : ℕ) (out : List ℕ) (kept : Option (List ℕ))
@@ -247,8 +224,8 @@ legal-alone c t (view.all w) task asks alone = alone-words c t c.status w.out w.
 legal-alone c t (view.failed f) task asks alone = alone-words c t f.status f.out f.kept f.view task asks alone
 legal-alone c t (view.wanting m) task asks alone = none m.view
   where
-    none : PartView c.words (inputs_of c t) c.accepted c.journal → HasNoEntry c
-    none (view.nothing void entries) = entries
+    none : PartView c.words (inputs_of c t) c.accepted c.journal c.taken → HasNoEntry c
+    none (view.nothing void unbegun) = unbegun.entries
     none (view.some own a owns further gives is some) =
         absurd (further (subst IsAlone (one_task c.words task own asks owns) alone))
 
@@ -263,8 +240,8 @@ legal-no_task c t (view.all w) none = idle-words c t c.status w.out w.kept w.vie
 legal-no_task c t (view.failed f) none = idle-words c t f.status f.out f.kept f.view none
 legal-no_task c t (view.wanting m) none = idle m.view
   where
-    idle : PartView c.words (inputs_of c t) c.accepted c.journal → HasNoEntry c
-    idle (view.nothing void entries) = entries
+    idle : PartView c.words (inputs_of c t) c.accepted c.journal c.taken → HasNoEntry c
+    idle (view.nothing void unbegun) = unbegun.entries
     idle (view.some own a owns further gives is some) = absurd (none own owns)
 
 some-told : (c : Call) (t : Texts) → HasNoEntry c ⊎ FollowsSome c t → HasNoEntry c ⊎ CarriesOutSome c t
@@ -288,33 +265,64 @@ kept-is_legal c t e =
 
 pub kept-goes_right : (c : Call) (t : Texts) → EndsOn c t → KeptGoesRight c t
 kept-goes_right c t e = record {
-  right = λ a items passages last gives tells.
-      let (right, stands) = legal-right (e.fits a gives) tells in
-      record { right = right; stands = stands; deposits = tells-deposits tells; so_far = front-deposits tells };
+  right = λ task a first items passages last asks gives begins tells.
+      let accepted = e.fits a gives in
+      let standing = begins-standing (row task).third t.third first accepted begins in
+      let (right, behind) = legal-right-from accepted standing tells in
+      record {
+        right = right;
+        stands = behind.stands;
+        deposits = tells-deposits-from tells;
+        so_far = front-deposits-from tells;
+      };
 }
 
 -- ---- one worker follows the policy
 
--- what was carried out is the run that is seen
-follows-same : (c : Call) (t : Texts) (status : ℕ) (out : List ℕ) (kept : Option (List ℕ)) (task : Task)
-    (a : Acceptance) → Gives c a → Asks c.words task
-    → Carried (inputs_of c t) task (outcome_with c status out kept) a
-    → (policy : Policy) (run : CarriesOut c t) → IsByOne run.task policy → FollowPolicy policy run.a run.passages
-follows-same c t status out kept task a gives asks r policy run one =
+-- What was carried out is the run that is seen.
+pub record SeenAs (c : Call) (t : Texts) (task : Task) (status : ℕ) (out : List ℕ) (kept : Option (List ℕ))
+    (a : Acceptance) (r : Carried (inputs_of c t) task (outcome_with c status out kept) a) (run : CarriesOut c t)
+    : Type 0 where
+  pub tasks : run.task ≡ task
+  pub programs : a ≡ run.a
+  pub firsts : r.first ≡ run.first
+  pub passages : r.passages ≡ run.passages
+  pub last : r.last ≡ run.last
+
+pub seen-as : (c : Call) (t : Texts) (task : Task) (status : ℕ) (out : List ℕ) (kept : Option (List ℕ))
+    (a : Acceptance) → IsAccepted a → Gives c a → Asks c.words task
+    → (r : Carried (inputs_of c t) task (outcome_with c status out kept) a) (run : CarriesOut c t)
+    → SeenAs c t task status out kept a r run
+seen-as c t task status out kept a accepted gives asks r run =
     let tasks : run.task ≡ task = one_task c.words run.task task run.asks asks in
     let both : Some a ≡ Some run.a = sym gives ∙ run.gives in
-    let programs : a ≡ run.a = cc in
-    let reads : ReadsAs (script_of task t.script) run.items =
-    subst (λ (x : Task). ReadsAs (script_of x t.script) run.items) tasks run.reads in
-    let items : r.items ≡ run.items = reads_once (script_of task t.script) r.items run.items r.reads reads in
-    let tells : Tells run.a run.items c.journal r.passages r.last =
-    subst (λ (x : Acceptance). Tells x run.items c.journal r.passages r.last) programs
-    (subst (λ (xs : List ScriptItem). Tells a xs c.journal r.passages r.last) items r.tells) in
-    let passages : r.passages ≡ run.passages = (tells-one tells run.tells).0 in
+    let programs : run.a ≡ a = cc in
+    let begins : BeginsAt task a t run.first =
+    subst (λ (x : Acceptance). BeginsAt task x t run.first) programs
+    (subst (λ (x : Task). BeginsAt x run.a t run.first) tasks run.begins) in
+    let firsts : r.first ≡ run.first =
+    begins-one (row task).third a t.third r.first run.first accepted r.begins begins in
+    let script : IsScriptOf c t task run.items =
+    subst (λ (x : Task). IsScriptOf c t x run.items) tasks run.script in
+    let items : r.items ≡ run.items =
+    script-one (row task).threads c.taken (script_of task t.script) r.items run.items r.script script in
+    let tells : TellsFrom run.a run.first run.items c.journal r.passages r.last =
+    subst (λ (x : Acceptance). TellsFrom x run.first run.items c.journal r.passages r.last) (sym programs)
+    (subst (λ (l : LedgerState). TellsFrom a l run.items c.journal r.passages r.last) firsts
+    (subst (λ (xs : List ScriptItem). TellsFrom a r.first xs c.journal r.passages r.last) items r.tells)) in
+    let same = tells-one tells run.tells in
+    record { tasks = tasks; programs = sym programs; firsts = firsts; passages = same.0; last = same.1 }
+
+follows-same : (c : Call) (t : Texts) (status : ℕ) (out : List ℕ) (kept : Option (List ℕ)) (task : Task)
+    (a : Acceptance) → IsAccepted a → Gives c a → Asks c.words task
+    → Carried (inputs_of c t) task (outcome_with c status out kept) a
+    → (policy : Policy) (run : CarriesOut c t) → IsByOne run.task policy → FollowPolicy policy run.a run.passages
+follows-same c t status out kept task a accepted gives asks r policy run one =
+    let seen = seen-as c t task status out kept a accepted gives asks r run in
     let follows : FollowPolicy policy a r.passages =
-    r.follows policy (subst (λ (x : Task). IsByOne x policy) tasks one) in
-    subst (λ (ps : List Passage). FollowPolicy policy run.a ps) passages
-    (subst (λ (x : Acceptance). FollowPolicy policy x r.passages) programs follows)
+    r.follows policy (subst (λ (x : Task). IsByOne x policy) seen.tasks one) in
+    subst (λ (ps : List Passage). FollowPolicy policy run.a ps) seen.passages
+    (subst (λ (x : Acceptance). FollowPolicy policy x r.passages) seen.programs follows)
 
 -- a run without an entry follows every policy
 follows-none : (policy : Policy) (a : Acceptance) (ps : List Passage) → entries_of ps ≡ [] → FollowPolicy policy a ps
@@ -328,28 +336,29 @@ follows-none policy a (p ∷ ps) none =
     entries-front None es is = (refl, is)
     entries-front (Some entry) es is = absurd (let never : entry ∷ es ≡ [] = is in cc)
 
-words-follow : (c : Call) (t : Texts) (status : ℕ) (out : List ℕ) (kept : Option (List ℕ))
+words-follow : (c : Call) (t : Texts) → EndsOn c t → (status : ℕ) (out : List ℕ) (kept : Option (List ℕ))
     → WordsView c.words (inputs_of c t) (outcome_with c status out kept) → (policy : Policy) (run : CarriesOut c t)
     → IsByOne run.task policy → FollowPolicy policy run.a run.passages
-words-follow c t status out kept (view.nothing_asked silent idle void four is) policy run one =
+words-follow c t e status out kept (view.nothing_asked silent idle void four is) policy run one =
     absurd (silent run.task run.asks)
-words-follow c t status out kept (view.task_asked task asks due) policy run one =
+words-follow c t e status out kept (view.task_asked task asks due) policy run one =
     either (due-told c t status out kept task due)
   where
     either : Told c t status out kept task → FollowPolicy policy run.a run.passages
     either (inl none) = follows-none policy run.a run.passages (run.tells.entries_are ∙ none)
-    either (inr (a, gives, r)) = follows-same c t status out kept task a gives asks r policy run one
+    either (inr (a, gives, r)) = follows-same c t status out kept task a (e.fits a gives) gives asks r policy run one
 
-end-follows : (c : Call) (t : Texts) → EndView c t → c.status ≢ 7 → (policy : Policy) (run : CarriesOut c t)
+end-follows : (c : Call) (t : Texts) → EndsOn c t → EndView c t → c.status ≢ 7 → (policy : Policy) (run : CarriesOut c t)
     → IsByOne run.task policy → FollowPolicy policy run.a run.passages
-end-follows c t (view.all w) seven policy run one = words-follow c t c.status w.out w.kept w.view policy run one
-end-follows c t (view.failed f) seven policy run one = words-follow c t f.status f.out f.kept f.view policy run one
-end-follows c t (view.wanting m) seven policy run one = absurd (seven m.is)
+end-follows c t e (view.all w) seven policy run one = words-follow c t e c.status w.out w.kept w.view policy run one
+end-follows c t e (view.failed f) seven policy run one =
+    words-follow c t e f.status f.out f.kept f.view policy run one
+end-follows c t e (view.wanting m) seven policy run one = absurd (seven m.is)
 
 pub one-worker_follows : (c : Call) (t : Texts) → EndsOn c t → OneWorkerFollows c t
 one-worker_follows c t e =
     let ends = end-view c t e in
     record {
-      all = λ seven policy run one. end-follows c t ends seven policy run one;
+      all = λ seven policy run one. end-follows c t e ends seven policy run one;
       in_part = λ seven. end-part c t ends seven;
     }

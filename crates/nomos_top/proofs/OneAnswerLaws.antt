@@ -8,6 +8,8 @@ use Rattle.nomos_accept.proofs.StarLaws.{no_stars-stop}
 use Rattle.nomos_least.proofs.OneLeastLaws.{least_ends-once, no_stars-least_stop}
 use Rattle.nomos_replay.proofs.OneAnswerLaws.{answers-one}
 use Rattle.nomos_script.proofs.ReadingLaws.{reads_once, reads_without_syntax, syntax_once}
+use Rattle.nomos_script.proofs.TalkLaws.{answers_once}
+use Rattle.nomos_snapshot.proofs.LoadingLaws.{loads-one}
 use Rattle.nomos_top.proofs.CauseLemmas.{accepted-one, cause-no_stop, cause-no_least_stop}
 use Rattle.nomos_top.proofs.RefusalLaws.{one-refusal}
 use Rattle.nomos_top.specs.Refusing.{HasOneAnswer, HasOneReading}
@@ -34,4 +36,6 @@ one-reading text = record {
   one_line = syntax_once text;
   not_both = λ items k. reads_without_syntax text k items;
   told_once = λ a items x y accepted one other. answers-one accepted one other;
+  talk_once = answers_once text;
+  loaded_once = λ a x y accepted one other. loads-one accepted one other;
 }

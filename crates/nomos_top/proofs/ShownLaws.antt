@@ -4,30 +4,25 @@ use Rattle.nomos_due.specs.Outside.{HaveRisen}
 use Rattle.nomos_due.specs.Written.{with_text}
 use Rattle.nomos_least.specs.LeastBounds.{IsLeastAs}
 use Rattle.nomos_least.specs.declared.least.LeastBounds.{LeastBounds}
-use Rattle.nomos_legal.proofs.UniqueLaws.{tells-one}
 use Rattle.nomos_legal.specs.Ledger.{LedgerState}
-use Rattle.nomos_legal.specs.Legal.{Tells}
 use Rattle.nomos_legal.specs.Passage.{Passage}
 use Rattle.nomos_report.specs.Block.{accepted_block}
 use Rattle.nomos_walk.specs.Wanted.{journal_text_of}
-use Rattle.nomos_script.proofs.ReadingLaws.{reads_once}
-use Rattle.nomos_script.specs.ScriptReading.{ReadsAs}
-use Rattle.nomos_script.specs.declared.item.ScriptItem.{ScriptItem}
 use Rattle.nomos_top.specs.Call.{EndsOn, IsDueOf, inputs_of, outcome_with}
-use Rattle.nomos_top.specs.Seen.{Call, Texts, Gives, HasWritten, IsDone}
+use Rattle.nomos_top.specs.Seen.{Call, Texts, Gives, HasKept, HasWritten, IsDone}
 use Rattle.nomos_top.specs.Kept.{CarriesOut}
 use Rattle.nomos_top.specs.LeastBlock.{least_block}
 use Rattle.nomos_top.specs.Outcome.{Inputs, Outcome}
 use Rattle.nomos_top.specs.Shown as shown
-use Rattle.nomos_top.specs.Shown.{FailsTruly, HasKept, HasKeptNothing, IsCutOff, IsFault, WritesWhatIsDue, told_of}
-use Rattle.nomos_top.specs.Tasks.{IsAlone, KeepsJournal, script_of}
+use Rattle.nomos_top.specs.Shown.{FailsTruly, HasKeptNothing, IsCutOff, IsFault, WritesWhatIsDue, told_of}
+use Rattle.nomos_top.specs.Tasks.{IsAlone, Keeps, KeepsJournal, ReadsTalk}
 use Rattle.nomos_top.proofs.AcceptedLaws.{task-view}
-use Rattle.nomos_top.proofs.EndLaws.{done-not, done-status, whole-at, whole-done}
-use Rattle.nomos_top.proofs.KeptLaws.{done-carried, further-not_seven}
-use Rattle.nomos_top.proofs.Views.{Carried, DueView, Failed, WordsView, WrittenView, Whole, EndView, end-view}
+use Rattle.nomos_top.proofs.EndLaws.{further-not_seven, further-not_six, whole-at, whole-done}
+use Rattle.nomos_top.proofs.KeptLaws.{done-carried, seen-as}
+use Rattle.nomos_top.proofs.StatusLaws.{done-not}
+use Rattle.nomos_top.proofs.Views.{Carried, DueView, Failed, Further, Missed, WordsView, WrittenView, Whole, EndView, end-view}
 use Rattle.nomos_top.proofs.Views as view
-use Rattle.nomos_types.specs.Acceptance.{Acceptance}
-use Rattle.nomos_words.proofs.WordLaws.{one_task}
+use Rattle.nomos_types.specs.Acceptance.{Acceptance, IsAccepted}
 use Rattle.nomos_words.specs.Words.{Task, check, least, Asks}
 
 -- ---- of a contract alone
@@ -68,43 +63,20 @@ least-shown c t out kept file zero wrote (view.behind a what further gives is) =
 
 -- ---- of a script
 
--- what was carried out is the run that is seen, and so is all that is told of it
-record SeenAs (c : Call) (t : Texts) (task : Task) (status : ℕ) (out : List ℕ) (kept : Option (List ℕ)) (a : Acceptance)
-    (r : Carried (inputs_of c t) task (outcome_with c status out kept) a) (run : CarriesOut c t) : Type 0 where
-  tasks : run.task ≡ task
-  programs : a ≡ run.a
-  passages : r.passages ≡ run.passages
-  last : r.last ≡ run.last
-
-seen-as : (c : Call) (t : Texts) (task : Task) (status : ℕ) (out : List ℕ) (kept : Option (List ℕ)) (a : Acceptance)
-    → Gives c a → Asks c.words task → (r : Carried (inputs_of c t) task (outcome_with c status out kept) a)
-    (run : CarriesOut c t) → SeenAs c t task status out kept a r run
-seen-as c t task status out kept a gives asks r run =
-    let tasks : run.task ≡ task = one_task c.words run.task task run.asks asks in
-    let both : Some a ≡ Some run.a = sym gives ∙ run.gives in
-    let programs : a ≡ run.a = cc in
-    let reads : ReadsAs (script_of task t.script) run.items =
-    subst (λ (x : Task). ReadsAs (script_of x t.script) run.items) tasks run.reads in
-    let items : r.items ≡ run.items = reads_once (script_of task t.script) r.items run.items r.reads reads in
-    let tells : Tells run.a run.items c.journal r.passages r.last =
-    subst (λ (x : Acceptance). Tells x run.items c.journal r.passages r.last) programs
-    (subst (λ (xs : List ScriptItem). Tells a xs c.journal r.passages r.last) items r.tells) in
-    let same = tells-one tells run.tells in
-    record { tasks = tasks; programs = programs; passages = same.0; last = same.1 }
-
 -- what is due of a run that is seen, where all was written
 record ShownAs (c : Call) (t : Texts) (out : List ℕ) (kept : Option (List ℕ)) (run : CarriesOut c t) : Type 0 where
-  told : out ≡ told_of run.task run.a c.journal run.passages run.last
+  told : ¬ (ReadsTalk run.task) → out ≡ told_of run.task run.a c.journal run.passages run.last
   keeps : KeepsJournal run.task → kept ≡ Some (journal_text_of run.a c.journal.limit run.passages)
 
 shown-as : (c : Call) (t : Texts) (task : Task) (status : ℕ) (out : List ℕ) (kept : Option (List ℕ)) (a : Acceptance)
-    → Gives c a → Asks c.words task → (r : Carried (inputs_of c t) task (outcome_with c status out kept) a)
-    (run : CarriesOut c t) → ShownAs c t out kept run
-shown-as c t task status out kept a gives asks r run =
-    let seen = seen-as c t task status out kept a gives asks r run in
+    → IsAccepted a → Gives c a → Asks c.words task
+    → (r : Carried (inputs_of c t) task (outcome_with c status out kept) a) (run : CarriesOut c t)
+    → ShownAs c t out kept run
+shown-as c t task status out kept a accepted gives asks r run =
+    let seen = seen-as c t task status out kept a accepted gives asks r run in
     record {
-      told =
-          r.out
+      told = λ quiet.
+          r.out (λ reads. quiet (subst ReadsTalk (sym seen.tasks) reads))
           ∙ ap (λ (x : Task). told_of x a c.journal r.passages r.last) (sym seen.tasks)
           ∙ ap (λ (x : Acceptance). told_of run.task x c.journal r.passages r.last) seen.programs
           ∙ ap (λ (ps : List Passage). told_of run.task run.a c.journal ps r.last) seen.passages
@@ -116,18 +88,19 @@ shown-as c t task status out kept a gives asks r run =
     }
 
 -- where all was written with 0 or 3, a run that is seen is what was carried out
-whole-shown : (c : Call) (t : Texts) (w : Whole c t) → IsDone c.status → (run : CarriesOut c t)
+whole-shown : (c : Call) (t : Texts) → EndsOn c t → (w : Whole c t) → IsDone c.status → (run : CarriesOut c t)
     → ShownAs c t w.out w.kept run
-whole-shown c t w done run =
+whole-shown c t e w done run =
     either (done-carried c t w.out w.kept run.task done (task-view w.view run.task run.asks))
   where
     either : IsAlone run.task
         ⊎ ((a : Acceptance) × Gives c a × Carried (inputs_of c t) run.task (outcome_with c c.status w.out w.kept) a)
         → ShownAs c t w.out w.kept run
     either (inl alone) = absurd (run.scripted alone)
-    either (inr (a, gives, r)) = shown-as c t run.task c.status w.out w.kept a gives run.asks r run
+    either (inr (a, gives, r)) =
+        shown-as c t run.task c.status w.out w.kept a (e.fits a gives) gives run.asks r run
 
-kept-text : (c : Call) (kept : Option (List ℕ)) (text : List ℕ)
+pub kept-text : (c : Call) (kept : Option (List ℕ)) (text : List ℕ)
     → c.journal_out.after ≡ with_text c.journal_out.before kept → kept ≡ Some text → HasKept c text
 kept-text c kept text keeps is =
     subst (λ (k : Option (List ℕ)). c.journal_out.after ≡ with_text c.journal_out.before k) is keeps
@@ -140,13 +113,10 @@ kept-nothing c kept keeps is =
 -- ---- what is not kept
 
 -- what is due keeps no text where the words do not ask for it
-due-drops : {i : Inputs} {task : Task} {o : Outcome} → DueView i task o → ¬ (KeepsJournal task) → o.kept ≡ None
+due-drops : {i : Inputs} {task : Task} {o : Outcome} → DueView i task o → ¬ (Keeps task) → o.kept ≡ None
 due-drops (view.against why idle none) drops = idle.kept
 due-drops (view.alone a what alone gives is idle n) drops = idle.kept
-due-drops (view.behind a (view.script_fault reads rose idle n is) further gives h) drops = idle.kept
-due-drops (view.behind a (view.bad_script reads line bad idle n is) further gives h) drops = idle.kept
-due-drops (view.behind a (view.journal_fault reads rose idle n is) further gives h) drops = idle.kept
-due-drops (view.behind a (view.bad_journal reads items g why answers idle n is) further gives h) drops = idle.kept
+due-drops (view.behind a (view.missed status line is idle same out) further gives h) drops = idle.kept
 due-drops (view.behind a (view.carried r) further gives h) drops = r.drops drops
 
 written-nothing : (c : Call) (status : ℕ) (out : List ℕ) (kept : Option (List ℕ))
@@ -156,7 +126,7 @@ written-nothing c status out kept (view.out_failed six rose some nothing) none =
 written-nothing c status out kept (view.journal_failed text six is wrote rose some) none =
     absurd (let both : None ≡ Some text = sym none ∙ is in cc)
 
-end-drops : (c : Call) (t : Texts) → EndView c t → (task : Task) → Asks c.words task → ¬ (KeepsJournal task)
+end-drops : (c : Call) (t : Texts) → EndView c t → (task : Task) → Asks c.words task → ¬ (Keeps task)
     → HasKeptNothing c
 end-drops c t (view.all w) task asks drops =
     kept-nothing c w.kept w.keeps (due-drops (task-view w.view task asks) drops)
@@ -171,20 +141,10 @@ words-undone c t out kept (view.nothing_asked none idle never four is) undone = 
 words-undone c t out kept (view.task_asked task asks (view.against why idle none)) undone = idle.kept
 words-undone c t out kept (view.task_asked task asks (view.alone a what alone gives is idle n)) undone = idle.kept
 words-undone c t out kept
-    (view.task_asked task asks (view.behind a (view.script_fault reads rose idle n is) further gives h)) undone =
-    idle.kept
-words-undone c t out kept
-    (view.task_asked task asks (view.behind a (view.bad_script reads line bad idle n is) further gives h)) undone =
-    idle.kept
-words-undone c t out kept
-    (view.task_asked task asks (view.behind a (view.journal_fault reads rose idle n is) further gives h)) undone =
-    idle.kept
-words-undone c t out kept
-    (view.task_asked task asks (view.behind a (view.bad_journal reads items g why answers idle n is) further gives h))
-    undone =
+    (view.task_asked task asks (view.behind a (view.missed status line is idle same o) further gives h)) undone =
     idle.kept
 words-undone c t out kept (view.task_asked task asks (view.behind a (view.carried r) further gives h)) undone =
-    absurd (undone (subst IsDone (sym r.status) (done-status c.journal.entries)))
+    absurd (undone r.done)
 
 end-undone : (c : Call) (t : Texts) → EndView c t → ¬ (IsDone c.status) → c.status ≢ 6 → HasKeptNothing c
 end-undone c t (view.all w) undone six =
@@ -205,22 +165,8 @@ words-not_six c t out kept (view.task_asked task asks (view.against (view.unsolv
     omega (arith, n, six)
 words-not_six c t out kept (view.task_asked task asks (view.alone a what alone gives is idle n)) six =
     omega (arith, n, six)
-words-not_six c t out kept
-    (view.task_asked task asks (view.behind a (view.script_fault reads rose idle n is) further gives h)) six =
-    omega (arith, n, six)
-words-not_six c t out kept
-    (view.task_asked task asks (view.behind a (view.bad_script reads line bad idle n is) further gives h)) six =
-    omega (arith, n, six)
-words-not_six c t out kept
-    (view.task_asked task asks (view.behind a (view.journal_fault reads rose idle n is) further gives h)) six =
-    omega (arith, n, six)
-words-not_six c t out kept
-    (view.task_asked task asks (view.behind a (view.bad_journal reads items g why answers idle n is) further gives h))
-    six =
-    omega (arith, n, six)
-words-not_six c t out kept (view.task_asked task asks (view.behind a (view.carried r) further gives h)) six =
-    done-not c.status 6 (subst IsDone (sym r.status) (done-status c.journal.entries)) (λ z. omega (arith, z))
-    (λ z. omega (arith, z)) six
+words-not_six c t out kept (view.task_asked task asks (view.behind a what further gives h)) six =
+    further-not_six what six
 
 words-not_seven : (c : Call) (t : Texts) (out : List ℕ) (kept : Option (List ℕ))
     → WordsView c.words (inputs_of c t) (outcome_with c c.status out kept) → c.status ≢ 7
@@ -268,13 +214,13 @@ writes-what_is_due c t e =
       bounded = λ file asks zero.
           let w = whole-at c t 0 ends zero (λ z. omega (arith, z)) (λ z. omega (arith, z)) in
           least-shown c t w.out w.kept file zero w.wrote (task-view w.view (least file) asks);
-      told = λ run done.
+      told = λ run done quiet.
           let w = whole-done c t ends done in
-          subst (HasWritten c) (whole-shown c t w done run).told w.wrote;
+          subst (HasWritten c) ((whole-shown c t e w done run).told quiet) w.wrote;
       kept = λ run done keeps.
           let w = whole-done c t ends done in
           kept-text c w.kept (journal_text_of run.a c.journal.limit run.passages) w.keeps
-          ((whole-shown c t w done run).keeps keeps);
+          ((whole-shown c t e w done run).keeps keeps);
       nothing_kept = λ task asks drops. end-drops c t ends task asks drops;
       nothing_due = λ undone six. end-undone c t ends undone six;
       cut_off = λ six. end-cut c t ends six;
@@ -282,6 +228,30 @@ writes-what_is_due c t e =
     }
 
 -- ---- and failures are true
+
+missed-fault : (c : Call) (t : Texts) (task : Task) (a : Acceptance) (status : ℕ) (line : List ℕ)
+    → Asks c.words task → HasWritten c line → status ≡ 5 → Missed (inputs_of c t) task a status line → IsFault c
+missed-fault c t task a status line asks wrote five (view.script_fault reads rose) = shown.script rose wrote
+missed-fault c t task a status line asks wrote five (view.third_fault reads rose) =
+    shown.third task asks reads rose wrote
+missed-fault c t task a status line asks wrote five (view.bad_script first l reads begins bad) =
+    absurd (omega (arith, five))
+missed-fault c t task a status line asks wrote five (view.no_pool threads items k reads has begins h bad) =
+    absurd (omega (arith, five))
+missed-fault c t task a status line asks wrote five (view.bad_journal items why reads h answers) =
+    absurd (omega (arith, five))
+missed-fault c t task a status line asks wrote five (view.bad_talk items l reads h bad) = absurd (omega (arith, five))
+missed-fault c t task a status line asks wrote five (view.unloaded why reads loads) = absurd (omega (arith, five))
+missed-fault c t task a status line asks wrote five (view.unsaved items journal ps last why keeps h run bad) =
+    absurd (omega (arith, five))
+
+further-fault : (c : Call) (t : Texts) (out : List ℕ) (kept : Option (List ℕ)) (task : Task) (a : Acceptance)
+    → Asks c.words task → HasWritten c out → c.status ≡ 5
+    → Further (inputs_of c t) task (outcome_with c c.status out kept) a → IsFault c
+further-fault c t out kept task a asks wrote five (view.missed status line is idle same o) =
+    missed-fault c t task a status line asks (subst (HasWritten c) o wrote) (sym same ∙ five) is
+further-fault c t out kept task a asks wrote five (view.carried r) =
+    absurd (done-not c.status 5 r.done (λ z. omega (arith, z)) (λ z. omega (arith, z)) five)
 
 fault-told : (c : Call) (t : Texts) (out : List ℕ) (kept : Option (List ℕ)) → HasWritten c out → c.status ≡ 5
     → WordsView c.words (inputs_of c t) (outcome_with c c.status out kept) → IsFault c
@@ -295,23 +265,8 @@ fault-told c t out kept wrote five (view.task_asked task asks (view.against (vie
     absurd (omega (arith, n, five))
 fault-told c t out kept wrote five (view.task_asked task asks (view.alone a what alone gives is idle n)) =
     absurd (omega (arith, n, five))
-fault-told c t out kept wrote five
-    (view.task_asked task asks (view.behind a (view.script_fault reads rose idle n is) further gives h)) =
-    shown.script rose (subst (HasWritten c) is wrote)
-fault-told c t out kept wrote five
-    (view.task_asked task asks (view.behind a (view.bad_script reads line bad idle n is) further gives h)) =
-    absurd (omega (arith, n, five))
-fault-told c t out kept wrote five
-    (view.task_asked task asks (view.behind a (view.journal_fault reads rose idle n is) further gives h)) =
-    shown.journal rose (subst (HasWritten c) is wrote)
-fault-told c t out kept wrote five
-    (view.task_asked task asks
-    (view.behind a (view.bad_journal reads items g why answers idle n is) further gives h)) =
-    absurd (omega (arith, n, five))
-fault-told c t out kept wrote five (view.task_asked task asks (view.behind a (view.carried r) further gives h)) =
-    absurd
-    (done-not c.status 5 (subst IsDone (sym r.status) (done-status c.journal.entries)) (λ z. omega (arith, z))
-    (λ z. omega (arith, z)) five)
+fault-told c t out kept wrote five (view.task_asked task asks (view.behind a what further gives h)) =
+    further-fault c t out kept task a asks wrote five what
 
 cut-risen : (c : Call) (t : Texts) → IsCutOff c t → HaveRisen c.out.counts ⊎ HaveRisen c.journal_out.counts
 cut-risen c t (shown.out_failed status out kept due rose some nothing) = inl rose

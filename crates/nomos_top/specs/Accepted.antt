@@ -14,7 +14,8 @@ GivesOne c = (a : Acceptance) × Gives c a
 
 -- the statuses behind acceptance alone
 abbrev pub IsBehindStatus : ℕ → Type 0
-IsBehindStatus status = (status ≡ 0) ⊎ ((status ≡ 2) ⊎ ((status ≡ 3) ⊎ (status ≡ 9)))
+IsBehindStatus status =
+    (status ≡ 0) ⊎ ((status ≡ 2) ⊎ ((status ≡ 3) ⊎ ((status ≡ 9) ⊎ ((status ≡ 10) ⊎ (status ≡ 11)))))
 
 -- The text reads as the program that is given, and it is typed under the amounts that are given with it, over their
 -- unit, which has at least one Dth. They are those that the pivot run finds, which looks for amounts that meet the rows

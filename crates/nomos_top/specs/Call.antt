@@ -10,13 +10,19 @@ abbrev pub inputs_of : Call → Texts → Inputs
 inputs_of c t = record {
   contract = input_of c.contract t.contract;
   script = input_of c.script t.script;
-  journal = input_of c.journal_in t.journal;
+  third = input_of c.journal_in t.third;
 }
 
 -- what the call gives, with this status and these texts to be written
 abbrev pub outcome_with : Call → ℕ → List ℕ → Option (List ℕ) → Outcome
-outcome_with c status out kept =
-    record { status = status; out = out; kept = kept; accepted = c.accepted; journal = c.journal }
+outcome_with c status out kept = record {
+  status = status;
+  out = out;
+  kept = kept;
+  accepted = c.accepted;
+  journal = c.journal;
+  taken = c.taken;
+}
 
 -- that is due
 abbrev pub IsDueOf : Call → Inputs → ℕ → List ℕ → Option (List ℕ) → Type 0
@@ -35,7 +41,7 @@ pub record EndsWithoutMemory (c : Call) (i : Inputs) : Type 0 where
   pub status : c.status ≡ 7
   pub out : c.out.after ≡ c.out.before
   pub journal_out : c.journal_out.after ≡ c.journal_out.before
-  pub part : IsPart c.words i c.accepted c.journal
+  pub part : IsPart c.words i c.accepted c.journal c.taken
 
 -- The call ends so on these texts. A program that is given is one that is typed, and all its numbers fit.
 pub record EndsOn (c : Call) (t : Texts) : Type 0 where

@@ -4,17 +4,16 @@ use Rattle.nomos_due.specs.Outside.{HaveRisen}
 use Rattle.nomos_journal.specs.JournalText.{IsTextOf}
 use Rattle.nomos_journal.specs.declared.line.Version.{Version}
 use Rattle.nomos_legal.specs.Ledger.{LedgerState}
-use Rattle.nomos_legal.specs.Legal.{FollowPolicy, Tells}
+use Rattle.nomos_legal.specs.Legal.{FollowPolicy, TellsFrom}
 use Rattle.nomos_legal.specs.Passage.{Passage}
 use Rattle.nomos_legal.specs.declared.journal.Journal.{Journal}
 use Rattle.nomos_machine.specs.declared.policy.Policy.{Policy}
-use Rattle.nomos_script.specs.ScriptReading.{ReadsAs}
 use Rattle.nomos_script.specs.declared.item.ScriptItem.{ScriptItem}
 use Rattle.nomos_top.specs.Seen.{Call, Texts, Gives, IsDone}
 use Rattle.nomos_top.specs.Complete.{HasReport}
-use Rattle.nomos_top.specs.Headline.{GoesRightTo, HasNoEntry}
+use Rattle.nomos_top.specs.Headline.{BeginsAt, GoesRightTo, HasNoEntry, IsScriptOf}
 use Rattle.nomos_top.specs.TaskRuns.{IsByOne, IsGivenFor, limit_of}
-use Rattle.nomos_top.specs.Tasks.{AskNothing, IsAlone, RunsScript, contract_of, script_of}
+use Rattle.nomos_top.specs.Tasks.{AskNothing, IsAlone, RunsScript, contract_of}
 use Rattle.nomos_types.specs.Acceptance.{Acceptance}
 use Rattle.nomos_words.specs.Words.{Task, replay, Asks}
 
@@ -23,20 +22,22 @@ abbrev pub IsOwn : Task → Acceptance → List ScriptItem → List ℕ → Jour
 IsOwn (replay file script kept) a items text journal = (v : Version) × IsTextOf v a items journal text
 IsOwn task a items text journal = journal.limit ≡ limit_of task
 
--- The script of a call that has one, and what became of all of it by the journal, which is legal and has an entry for
--- each deposit and each batch.
+-- The script that a call carries out, and what became of all of it by the journal, which is legal from the first ledger
+-- and has an entry for each deposit and each batch.
 pub record CarriesOut (c : Call) (t : Texts) : Type 0 where
   pub task : Task
   pub asks : Asks c.words task
   pub scripted : ¬ (IsAlone task)
   pub a : Acceptance
   pub gives : Gives c a
+  pub first : LedgerState
+  pub begins : BeginsAt task a t first
   pub items : List ScriptItem
-  pub reads : ReadsAs (script_of task t.script) items
+  pub script : IsScriptOf c t task items
   pub passages : List Passage
   pub last : LedgerState
-  pub tells : Tells a items c.journal passages last
-  pub own : IsOwn task a items t.journal c.journal
+  pub tells : TellsFrom a first items c.journal passages last
+  pub own : IsOwn task a items t.third c.journal
 
 -- The same of some first items, where a script is run.
 pub record CarriesOutSome (c : Call) (t : Texts) : Type 0 where
@@ -45,12 +46,14 @@ pub record CarriesOutSome (c : Call) (t : Texts) : Type 0 where
   pub runs : RunsScript task
   pub a : Acceptance
   pub gives : Gives c a
+  pub first : LedgerState
+  pub begins : BeginsAt task a t first
   pub items : List ScriptItem
-  pub reads : ReadsAs (script_of task t.script) items
+  pub script : IsScriptOf c t task items
   pub count : ℕ
   pub passages : List Passage
   pub last : LedgerState
-  pub tells : Tells a (take count items) c.journal passages last
+  pub tells : TellsFrom a first (take count items) c.journal passages last
   pub limit : c.journal.limit ≡ limit_of task
 
 -- a source failed in this call
@@ -72,10 +75,11 @@ pub record KeptIsLegal (c : Call) (t : Texts) : Type 0 where
   pub alone : (task : Task) → Asks c.words task → IsAlone task → HasNoEntry c
   pub no_task : AskNothing c.words → HasNoEntry c
 
--- Every journal that is kept goes right.
+-- Every journal that is kept goes right, from the ledger at which the task begins.
 pub record KeptGoesRight (c : Call) (t : Texts) : Type 0 where
-  pub right : (a : Acceptance) (items : List ScriptItem) (passages : List Passage) (last : LedgerState) → Gives c a
-      → Tells a items c.journal passages last → GoesRightTo a passages last
+  pub right : (task : Task) (a : Acceptance) (first : LedgerState) (items : List ScriptItem) (passages : List Passage)
+      (last : LedgerState) → Asks c.words task → Gives c a → BeginsAt task a t first
+      → TellsFrom a first items c.journal passages last → GoesRightTo a first passages last
 
 -- One worker follows the policy: in its firings, and in the process with whose fault a batch ends.
 pub record OneWorkerFollows (c : Call) (t : Texts) : Type 0 where

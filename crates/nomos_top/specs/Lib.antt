@@ -14,5 +14,8 @@ pub mod Shown
 pub mod Turns
 pub mod Repeating
 pub mod Replaying
+pub mod Pooling
+pub mod TalksByType
+pub mod Snapshots
 pub mod Claims
 pub mod mirror

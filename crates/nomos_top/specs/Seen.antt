@@ -3,6 +3,7 @@ use Rattle.std.specs.Prelude.{◌≡◌, ◌⊎◌, ℕ, List, Option, Some}
 use Rattle.nomos_base.specs.Sink.{with_end}
 use Rattle.nomos_due.specs.Outside.{HasText, SourceState, SinkState}
 use Rattle.nomos_legal.specs.declared.journal.Journal.{Journal}
+use Rattle.nomos_script.specs.declared.item.ScriptItem.{ScriptItem}
 use Rattle.nomos_types.specs.Acceptance.{Acceptance}
 
 -- The words; what each source has left, where it tells that, and its counts of faults; what each sink had and has,
@@ -17,24 +18,30 @@ pub record Call : Type 0 where
   pub status : ℕ
   pub accepted : Option Acceptance
   pub journal : Journal
+  -- what was taken of the script, where threads submit its single lines
+  pub taken : Option (List ScriptItem)
 
--- the texts of the sources
+-- The texts of the sources. The third is a journal, a snapshot, or what a party says in a talk.
 pub record Texts : Type 0 where
   pub contract : List ℕ
   pub script : List ℕ
-  pub journal : List ℕ
+  pub third : List ℕ
 
 -- they are what the sources have left, where these tell that
 pub record AreTold (c : Call) (t : Texts) : Type 0 where
   pub contract : HasText c.contract.left t.contract
   pub script : HasText c.script.left t.script
-  pub journal : HasText c.journal_in.left t.journal
+  pub third : HasText c.journal_in.left t.third
 
 -- ---- words for what is said of a call
 
 -- the output has got exactly this
 abbrev pub HasWritten : Call → List ℕ → Type 0
 HasWritten c bytes = c.out.after ≡ with_end c.out.before bytes
+
+-- the journal's sink has got exactly this
+abbrev pub HasKept : Call → List ℕ → Type 0
+HasKept c bytes = c.journal_out.after ≡ with_end c.journal_out.before bytes
 
 -- this program is given
 abbrev pub Gives : Call → Acceptance → Type 0

@@ -1,6 +1,6 @@
 -- What is written, and what stays as it was.
 use Rattle.std.specs.Prelude.{◌≡◌, ◌≢◌, ◌⊎◌, ℕ, List, Option, Some, None, codes}
-use Rattle.nomos_base.specs.Sink.{with_end, AppendsSome}
+use Rattle.nomos_base.specs.Sink.{AppendsSome}
 use Rattle.nomos_due.specs.Benches.{figures_of}
 use Rattle.nomos_due.specs.Lines.{read_fault_line}
 use Rattle.nomos_due.specs.Outside.{HaveRisen}
@@ -13,11 +13,12 @@ use Rattle.nomos_report.specs.Block.{accepted_block}
 use Rattle.nomos_report.specs.Reported.{report_of}
 use Rattle.nomos_walk.specs.Wanted.{journal_text_of, result_behind}
 use Rattle.nomos_top.specs.Call.{IsDueOf, inputs_of}
-use Rattle.nomos_top.specs.Seen.{Call, Texts, HasWritten, Gives, IsDone}
+use Rattle.nomos_top.specs.Seen.{Call, Texts, HasKept, HasWritten, Gives, IsDone}
 use Rattle.nomos_top.specs.Kept.{CarriesOut}
 use Rattle.nomos_top.specs.LeastBlock.{least_block}
-use Rattle.nomos_top.specs.Tasks.{KeepsJournal}
+use Rattle.nomos_top.specs.Tasks.{Keeps, KeepsJournal, ReadsTalk, ReadsThird, third_name}
 use Rattle.nomos_types.specs.Acceptance.{Acceptance}
+use Rattle.nomos_words.specs.Commands.{row}
 use Rattle.nomos_words.specs.Summary.{summary_text}
 use Rattle.nomos_words.specs.Words.{Task, check, bench, least, Asks}
 
@@ -27,11 +28,7 @@ told_of (bench seed bidders) a journal ps last =
     summary_text (figures_of (record { seed = seed; bidders = bidders }) a journal last) (result_behind None ps)
 told_of _ a journal ps last = report_of a ps
 
--- the journal's sink has got exactly this
-abbrev pub HasKept : Call → List ℕ → Type 0
-HasKept c bytes = c.journal_out.after ≡ with_end c.journal_out.before bytes
-
--- it has got nothing
+-- the journal's sink has got nothing
 abbrev pub HasKeptNothing : Call → Type 0
 HasKeptNothing c = c.journal_out.after ≡ c.journal_out.before
 
@@ -50,21 +47,25 @@ pub record WritesWhatIsDue (c : Call) (t : Texts) : Type 0 where
       → (a : Acceptance) × Gives c a × HasWritten c (accepted_block a)
   pub bounded : (file : List ℕ) → Asks c.words (least file) → c.status ≡ 0
       → (b : LeastBounds) × Gives c b.accepted × IsLeastAs t.contract b × HasWritten c (least_block b)
-  pub told : (r : CarriesOut c t) → IsDone c.status → HasWritten c (told_of r.task r.a c.journal r.passages r.last)
-  -- the journal's text is kept where the words ask for that
+  -- of a talk more is told, as is said where talks are
+  pub told : (r : CarriesOut c t) → IsDone c.status → ¬ (ReadsTalk r.task)
+      → HasWritten c (told_of r.task r.a c.journal r.passages r.last)
+  -- the journal's text is kept where the words ask for that; what is saved is said where snapshots are
   pub kept : (r : CarriesOut c t) → IsDone c.status → KeepsJournal r.task
       → HasKept c (journal_text_of r.a c.journal.limit r.passages)
-  pub nothing_kept : (task : Task) → Asks c.words task → ¬ (KeepsJournal task) → HasKeptNothing c
+  pub nothing_kept : (task : Task) → Asks c.words task → ¬ (Keeps task) → HasKeptNothing c
   pub nothing_due : ¬ (IsDone c.status) → c.status ≢ 6 → HasKeptNothing c
   -- with 6 a front of what was due is written, and with 7 nothing
   pub cut_off : c.status ≡ 6 → IsCutOff c t
   pub nothing_out : c.status ≡ 7 → c.out.after ≡ c.out.before
 
--- A source could not be read: the very one that the line names failed in this call.
+-- A source could not be read: the very one that the line names failed in this call. The third is named as the text that
+-- the task reads there.
 pub data IsFault (c : Call) : Type 0 where
   contract : HaveRisen c.contract.counts → HasWritten c (read_fault_line (codes "contract")) → IsFault c
   script : HaveRisen c.script.counts → HasWritten c (read_fault_line (codes "script")) → IsFault c
-  journal : HaveRisen c.journal_in.counts → HasWritten c (read_fault_line (codes "journal")) → IsFault c
+  third : (task : Task) → Asks c.words task → ReadsThird task → HaveRisen c.journal_in.counts
+      → HasWritten c (read_fault_line (third_name (row task).third)) → IsFault c
 
 -- A failure comes only where a source or a sink failed in this call.
 pub record FailsTruly (c : Call) (t : Texts) : Type 0 where

@@ -1,7 +1,7 @@
 -- What the task of a call asks for, by the table of commands: of which kind it is, and whose text its contract and its
 -- script are.
-use Rattle.std.specs.Prelude.{ℕ, List}
-use Rattle.nomos_words.specs.Commands.{IsFromFile, IsKept, IsNowhere, IsRun, IsSought, RunsByCrew, row, text_by}
+use Rattle.std.specs.Prelude.{◌⊎◌, ℕ, List, [], IsSome, codes}
+use Rattle.nomos_words.specs.Commands.{IsFromFile, IsJournal, IsJournalKept, IsNowhere, IsRun, IsSnapshot, IsSnapshotKept, IsSought, IsSubmitted, IsTalkText, RunsByCrew, Third, a_journal, a_snapshot, a_talk, kept_word, no_third, row, text_by, third_word}
 use Rattle.nomos_words.specs.Words.{Task, Asks}
 
 -- the words of a call ask for nothing
@@ -34,13 +34,48 @@ RunsScript task = IsRun (row task).runs
 abbrev pub IsByCrew : Task → Type 0
 IsByCrew task = RunsByCrew (row task).runs
 
+-- threads submit its single lines
+abbrev pub IsPooled : Task → Type 0
+IsPooled task = IsSubmitted (row task).threads
+
+-- its call may wait: several workers run its script, or threads submit the lines of it
+abbrev pub Waits : Task → Type 0
+Waits task = IsByCrew task ⊎ IsPooled task
+
 -- a journal is read
 abbrev pub ReadsJournal : Task → Type 0
-ReadsJournal task = IsFromFile (row task).journal
+ReadsJournal task = IsJournal (row task).third
+
+-- a snapshot is read, at whose ledger the script begins
+abbrev pub ReadsSnapshot : Task → Type 0
+ReadsSnapshot task = IsSnapshot (row task).third
+
+-- the text of a talk is read
+abbrev pub ReadsTalk : Task → Type 0
+ReadsTalk task = IsTalkText (row task).third
+
+-- some third text is read
+abbrev pub ReadsThird : Task → Type 0
+ReadsThird task = IsSome (third_word (row task).third)
 
 -- the journal is kept
 abbrev pub KeepsJournal : Task → Type 0
-KeepsJournal task = IsKept (row task).kept
+KeepsJournal task = IsJournalKept (row task).kept
+
+-- the ledger is saved
+abbrev pub KeepsSnapshot : Task → Type 0
+KeepsSnapshot task = IsSnapshotKept (row task).kept
+
+-- something is kept
+abbrev pub Keeps : Task → Type 0
+Keeps task = IsSome (kept_word (row task).kept)
+
+-- what the third text is called where it cannot be read
+abbrev pub third_name : Third → List ℕ
+third_name no_third = []
+third_name (a_journal word) = codes "journal"
+third_name (a_snapshot word) = codes "snapshot"
+third_name (a_talk word) = codes "talk"
 
 -- ---- texts
 

@@ -22,10 +22,10 @@ use std::alloc::Global;
 
 /// What is due for a check.
 pub(crate) fn check_due<S: Source>(alloc: Global, contract: &mut S) -> Result<CallDue, DoneSoFar>
-    ensures ok { (file : List ℕ) (script journal : SourceState) → IfOk result (IsTaskDueOn (record {
+    ensures ok { (file : List ℕ) (script third : SourceState) → IfOk result (IsTaskDueOn (record {
       contract = source_state (S.left contract.old) (S.faults contract.old) (S.faults contract.new);
       script = script;
-      journal = journal;
+      third = third;
     }) (check file)) }
     ensures err { IfErr result (IsNothing usual_limit) }
 {
@@ -37,10 +37,10 @@ pub(crate) fn check_due<S: Source>(alloc: Global, contract: &mut S) -> Result<Ca
 
 /// What is due for a search for least bounds.
 pub(crate) fn least_due<S: Source>(alloc: Global, contract: &mut S) -> Result<CallDue, DoneSoFar>
-    ensures ok { (file : List ℕ) (script journal : SourceState) → IfOk result (IsTaskDueOn (record {
+    ensures ok { (file : List ℕ) (script third : SourceState) → IfOk result (IsTaskDueOn (record {
       contract = source_state (S.left contract.old) (S.faults contract.old) (S.faults contract.new);
       script = script;
-      journal = journal;
+      third = third;
     }) (least file)) }
     ensures err { IfErr result (IsNothing usual_limit) }
 {

@@ -5,7 +5,7 @@ ghost use Rattle.nomos_due.specs.Outside.{SourceState, source_state};
 ghost use Rattle.nomos_due.specs.Sources.{IsRunDueFor, IsRunPartFor};
 ghost use Rattle.nomos_legal.specs.Legal.{IsLimit};
 ghost use Rattle.nomos_top.specs.TaskRuns.{run_orders};
-ghost use Rattle.nomos_top.specs.mirror.Judging.{IsTaskDueOn, IsTaskPartOn, given_of};
+ghost use Rattle.nomos_top.specs.mirror.Judging.{IsTaskDueOn, IsTaskPartOn, given_of, taken_of};
 ghost use Rattle.nomos_words.specs.Words.{run};
 ghost use Rattle.nomos_words.specs.declared.workers.Workers.{Workers};
 ghost use Rattle.nomos_workers.specs.Crews.{IsCrew};
@@ -35,17 +35,17 @@ pub(crate) fn run_due_by_crew<S: Source, G: Gate, R: Threads + Wait + Sync>(
 ) -> Result<CallDue, DoneSoFar>
     requires crew { IsCrew orders.crew }
     requires limit { IsLimit orders.limit }
-    ensures ok { (file words : List ℕ) (by : Workers) (steps : ℕ) (kept : Option (List ℕ)) (journal : SourceState)
+    ensures ok { (file words : List ℕ) (by : Workers) (steps : ℕ) (kept : Option (List ℕ)) (third : SourceState)
         → orders ≡ run_orders by steps kept → IfOk result (IsTaskDueOn (record {
           contract = source_state (S.left contract.old) (S.faults contract.old) (S.faults contract.new);
           script = source_state (S.left script.old) (S.faults script.old) (S.faults script.new);
-          journal = journal;
+          third = third;
         }) (run file words by steps kept)) }
-    ensures err { (file words : List ℕ) (by : Workers) (steps : ℕ) (kept : Option (List ℕ)) (journal : SourceState)
+    ensures err { (file words : List ℕ) (by : Workers) (steps : ℕ) (kept : Option (List ℕ)) (third : SourceState)
         → orders ≡ run_orders by steps kept → IfErr result (IsTaskPartOn (record {
           contract = source_state (S.left contract.old) (S.faults contract.old) (S.faults contract.new);
           script = source_state (S.left script.old) (S.faults script.old) (S.faults script.new);
-          journal = journal;
+          third = third;
         }) (run file words by steps kept)) }
     ensures unread { given_of result ≡ None → script.new ≡ script.old }
 {
@@ -86,6 +86,7 @@ fn accepted_run_due_by_crew<S: Source, G: Gate, R: Threads + Wait + Sync>(
     ensures err { IfErr result (λ part. IsRunPartFor accepted orders
         (source_state (S.left script.old) (S.faults script.old) (S.faults script.new)) part.journal) }
     ensures given { given_of result ≡ Some accepted }
+    ensures untaken { taken_of result ≡ None }
 {
     let runner = Runner {
         rt: stage.rt,

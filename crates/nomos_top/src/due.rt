@@ -4,20 +4,23 @@ ghost use Rattle.std.specs.Prelude.{◌≡◌, None, IfOk, IfErr};
 ghost use Rattle.nomos_due.specs.Lines.{no_entries};
 ghost use Rattle.nomos_due.specs.Replays.{no_journal};
 ghost use Rattle.nomos_top.specs.Outcome.{bare, given};
-ghost use Rattle.nomos_top.specs.mirror.Judging.{IsNothing, behind_of, outcome_of};
+ghost use Rattle.nomos_top.specs.mirror.Judging.{IsNothing, behind_of, outcome_of, pooled_behind_of};
 
 use nomos_due::due::Due;
+use nomos_due::pools::{PoolDue, PoolPart};
 use nomos_ir::items::Items;
 use nomos_ir::limits::USUAL_LIMIT;
 use nomos_legal::journal::Journal;
+use nomos_script::script::Script;
 use nomos_types::accepted::Accepted;
 use std::alloc::Global;
 
-/// What is due of a call, with the program that is given.
+/// What is due of a call, with the program that is given, and with what was taken of the script where threads submit.
 #[derive(Drop)]
 pub(crate) struct CallDue {
     pub(crate) accepted: Option<Accepted>,
     pub(crate) due: Due,
+    pub(crate) taken: Option<Script>,
 }
 
 /// What was done before memory ran out.
@@ -25,6 +28,7 @@ pub(crate) struct CallDue {
 pub(crate) struct DoneSoFar {
     pub(crate) accepted: Option<Accepted>,
     pub(crate) journal: Journal,
+    pub(crate) taken: Option<Script>,
 }
 
 // The journal without entries.
@@ -44,6 +48,7 @@ pub(crate) fn nothing_done(alloc: Global, limit: u32) -> DoneSoFar
     DoneSoFar {
         accepted: None,
         journal: no_entries(alloc, limit),
+        taken: None,
     }
 }
 
@@ -60,6 +65,7 @@ pub(crate) fn bare_due(alloc: Global, limit: u32, status: u8, out: Vec<u8>) -> C
     CallDue {
         accepted: None,
         due,
+        taken: None,
     }
 }
 
@@ -92,6 +98,7 @@ pub(crate) fn alone_due(alloc: Global, out: Vec<u8>, accepted: Accepted) -> Call
     CallDue {
         accepted: Some(accepted),
         due,
+        taken: None,
     }
 }
 
@@ -106,10 +113,33 @@ pub(crate) fn due_behind(
         Ok(due) => Ok(CallDue {
             accepted: Some(accepted),
             due,
+            taken: None,
         }),
         Err(journal) => Err(DoneSoFar {
             accepted: Some(accepted),
             journal,
+            taken: None,
+        }),
+    }
+}
+
+/// What is due behind the acceptance of a program where threads submit, with it.
+pub(crate) fn pooled_behind(
+    accepted: Accepted,
+    due: Result<PoolDue, PoolPart>,
+) -> Result<CallDue, DoneSoFar>
+    ensures { result ≡ pooled_behind_of accepted due }
+{
+    match due {
+        Ok(PoolDue { due, taken }) => Ok(CallDue {
+            accepted: Some(accepted),
+            due,
+            taken,
+        }),
+        Err(PoolPart { journal, taken }) => Err(DoneSoFar {
+            accepted: Some(accepted),
+            journal,
+            taken,
         }),
     }
 }

@@ -6,9 +6,12 @@ mod crew;
 mod due;
 mod judging;
 mod least_block;
+mod pools;
 mod refusal;
 mod scripts;
+mod snapshots;
 mod stage;
+mod talks;
 mod top;
 mod unaccepted;
 

@@ -10,7 +10,7 @@ ghost use Rattle.nomos_machine.specs.declared.policy.Policy.{Policy};
 ghost use Rattle.nomos_script.specs.ScriptReading.{ReadsAs};
 ghost use Rattle.nomos_script.specs.declared.item.ScriptItem.{ScriptItem};
 ghost use Rattle.nomos_top.specs.TaskRuns.{run_orders, bench_orders};
-ghost use Rattle.nomos_top.specs.mirror.Judging.{IsTaskDueOn, IsTaskPartOn, given_of};
+ghost use Rattle.nomos_top.specs.mirror.Judging.{IsTaskDueOn, IsTaskPartOn, given_of, taken_of};
 ghost use Rattle.nomos_words.specs.Words.{run, replay, bench};
 ghost use Rattle.nomos_words.specs.declared.workers.Workers.{Workers};
 
@@ -39,17 +39,17 @@ pub(crate) fn run_due<S: Source>(
 ) -> Result<CallDue, DoneSoFar>
     requires one { (policy : Policy) × (orders.crew ≡ Crew.One policy) }
     requires limit { IsLimit orders.limit }
-    ensures ok { (file words : List ℕ) (by : Workers) (steps : ℕ) (kept : Option (List ℕ)) (journal : SourceState)
+    ensures ok { (file words : List ℕ) (by : Workers) (steps : ℕ) (kept : Option (List ℕ)) (third : SourceState)
         → orders ≡ run_orders by steps kept → IfOk result (IsTaskDueOn (record {
           contract = source_state (S.left contract.old) (S.faults contract.old) (S.faults contract.new);
           script = source_state (S.left script.old) (S.faults script.old) (S.faults script.new);
-          journal = journal;
+          third = third;
         }) (run file words by steps kept)) }
-    ensures err { (file words : List ℕ) (by : Workers) (steps : ℕ) (kept : Option (List ℕ)) (journal : SourceState)
+    ensures err { (file words : List ℕ) (by : Workers) (steps : ℕ) (kept : Option (List ℕ)) (third : SourceState)
         → orders ≡ run_orders by steps kept → IfErr result (IsTaskPartOn (record {
           contract = source_state (S.left contract.old) (S.faults contract.old) (S.faults contract.new);
           script = source_state (S.left script.old) (S.faults script.old) (S.faults script.new);
-          journal = journal;
+          third = third;
         }) (run file words by steps kept)) }
     ensures unread { given_of result ≡ None → script.new ≡ script.old }
 {
@@ -73,6 +73,7 @@ fn accepted_run_due<S: Source>(
     ensures err { IfErr result (λ part. IsRunPartFor accepted orders
         (source_state (S.left script.old) (S.faults script.old) (S.faults script.new)) part.journal) }
     ensures given { given_of result ≡ Some accepted }
+    ensures untaken { taken_of result ≡ None }
 {
     let due = runs::run_due::<IndexedState, S>(orders, alloc, &accepted, script);
     due_behind(accepted, due)
@@ -88,12 +89,12 @@ pub(crate) fn replay_due<S: Source>(
     ensures ok { (file script_file journal_file : List ℕ) → IfOk result (IsTaskDueOn (record {
       contract = source_state (S.left contract.old) (S.faults contract.old) (S.faults contract.new);
       script = source_state (S.left script.old) (S.faults script.old) (S.faults script.new);
-      journal = source_state (S.left journal.old) (S.faults journal.old) (S.faults journal.new);
+      third = source_state (S.left journal.old) (S.faults journal.old) (S.faults journal.new);
     }) (replay file script_file journal_file)) }
     ensures err { (file script_file journal_file : List ℕ) → IfErr result (IsTaskPartOn (record {
       contract = source_state (S.left contract.old) (S.faults contract.old) (S.faults contract.new);
       script = source_state (S.left script.old) (S.faults script.old) (S.faults script.new);
-      journal = source_state (S.left journal.old) (S.faults journal.old) (S.faults journal.new);
+      third = source_state (S.left journal.old) (S.faults journal.old) (S.faults journal.new);
     }) (replay file script_file journal_file)) }
     ensures unread_script { given_of result ≡ None → script.new ≡ script.old }
     ensures unread_journal { given_of result ≡ None → journal.new ≡ journal.old }
@@ -118,6 +119,7 @@ fn accepted_replay_due<S: Source>(
         (source_state (S.left journal.old) (S.faults journal.old) (S.faults journal.new)) d.due) }
     ensures err { IfErr result (λ part. part.journal ≡ no_journal) }
     ensures given { given_of result ≡ Some accepted }
+    ensures untaken { taken_of result ≡ None }
     ensures unread { (text : List ℕ) → S.left script.old ≡ Some text
         → ((items : List ScriptItem) → ¬ ReadsAs text items) → journal.new ≡ journal.old }
 {
@@ -128,10 +130,10 @@ fn accepted_replay_due<S: Source>(
 /// What is due for the load of `bench`.
 pub(crate) fn bench_due(alloc: Global, load: Load) -> Result<CallDue, DoneSoFar>
     requires { load.bidders ≤ 10000 }
-    ensures ok { (contract script journal : SourceState) → IfOk result (IsTaskDueOn
-        (record { contract = contract; script = script; journal = journal }) (bench load.seed load.bidders)) }
-    ensures err { (contract script journal : SourceState) → IfErr result (IsTaskPartOn
-        (record { contract = contract; script = script; journal = journal }) (bench load.seed load.bidders)) }
+    ensures ok { (contract script third : SourceState) → IfOk result (IsTaskDueOn
+        (record { contract = contract; script = script; third = third }) (bench load.seed load.bidders)) }
+    ensures err { (contract script third : SourceState) → IfErr result (IsTaskPartOn
+        (record { contract = contract; script = script; third = third }) (bench load.seed load.bidders)) }
 {
     match judge_auction(alloc) {
         Ok(accepted) => accepted_bench_due(alloc, load, accepted),
@@ -178,6 +180,7 @@ fn accepted_bench_due(alloc: Global, load: Load, accepted: Accepted) -> Result<C
     ensures kept { IfOk result (λ d. kept_text d.due ≡ None) }
     ensures err { IfErr result (λ part. IsBenchPart accepted bench_orders load part.journal) }
     ensures given { given_of result ≡ Some accepted }
+    ensures untaken { taken_of result ≡ None }
 {
     let due = indexed_bench_due(bench_orders(), alloc, &accepted, load);
     due_behind(accepted, due)

@@ -1,17 +1,20 @@
-//! The top call, and the same for all jobs but a run by several workers, proved to return.
+//! The top call, and the same for all jobs but a run by several workers and one whose lines threads submit, proved to
+//! return.
 
-ghost use Rattle.std.specs.Prelude.{◌≡◌, ◌⊎◌, ◌↔◌, ℕ, List, Some, None, IfOk, IfErr, IsTrue, map, string_bytes};
+ghost use Rattle.std.specs.Prelude.{◌≡◌, ◌⊎◌, ◌↔◌, ℕ, List, Ok, Some, None, IfOk, IfErr, IsTrue, map, string_bytes};
 ghost use Rattle.std.specs.Option.{option_map};
 ghost use Rattle.nomos_due.specs.Outside.{SourceState, sink_state, source_state};
 ghost use Rattle.nomos_due.specs.Sources.{kept_text};
 ghost use Rattle.nomos_due.specs.Written.{HasWrittenOut};
+ghost use Rattle.nomos_legal.specs.Ledger.{LedgerState};
 ghost use Rattle.nomos_script.specs.ScriptReading.{ReadsAs};
 ghost use Rattle.nomos_script.specs.declared.item.ScriptItem.{ScriptItem};
+ghost use Rattle.nomos_snapshot.specs.Loading.{Loads};
 ghost use Rattle.nomos_top.specs.Claims.{Claims};
 ghost use Rattle.nomos_top.specs.Refusing.{HasOneAnswer, HasOneReading};
 ghost use Rattle.nomos_top.specs.TaskRuns.{run_orders};
-ghost use Rattle.nomos_top.specs.Tasks.{IsByCrew, ReadsContract, ReadsJournal, ReadsScript};
-ghost use Rattle.nomos_top.specs.Turns.{MayWait, Untouched, WantsContract, WantsJournal, WantsScript};
+ghost use Rattle.nomos_top.specs.Tasks.{ReadsContract, ReadsScript, ReadsSnapshot, ReadsThird, Waits};
+ghost use Rattle.nomos_top.specs.Turns.{MayWait, Untouched, WantsContract, WantsScript, WantsSnapshot, WantsThird};
 ghost use Rattle.nomos_top.specs.mirror.Judging.{EndsDue, EndsPart, IsDueOn, IsPartOn, IsTaskDueOn, IsTaskPartOn, given_of};
 ghost use Rattle.nomos_types.specs.Acceptance.{Acceptance, IsAccepted};
 ghost use Rattle.nomos_words.specs.Jobs.{task};
@@ -20,15 +23,20 @@ ghost use Rattle.nomos_words.specs.Words.{Asks};
 use crate::alone::{check_due, least_due};
 use crate::crew::run_due_by_crew;
 use crate::due::{CallDue, DoneSoFar, line_due};
+use crate::pools::pool_due;
 use crate::scripts::{bench_due, replay_due, run_due};
+use crate::snapshots::{resume_due, save_due};
 use crate::stage::Stage;
+use crate::talks::talk_due;
 use nomos_base::{Sink, Source};
 use nomos_due::benches::Load;
 use nomos_due::written::write_due;
 use nomos_ir::limits::USUAL_LIMIT;
 use nomos_legal::journal::Journal;
 use nomos_run::orders::Orders;
+use nomos_script::script::Script;
 use nomos_types::accepted::Accepted;
+use nomos_visit::held::Party;
 use nomos_words::job::{self, Job};
 use nomos_words::usage::usage_line;
 use nomos_words::workers::Workers;
@@ -50,37 +58,42 @@ pub struct Ended {
     /// What became of the script: an entry for each deposit and each batch with status 0 and 3, and with 6 where the
     /// report was made; with 7 those of some of its first items, for a replay none; otherwise none.
     pub journal: Journal,
+    /// What was taken of the script, where threads submit its single lines: given where a report was made, and with 7
+    /// once all lines were gathered; otherwise, and for all other jobs, nothing.
+    pub taken: Option<Script>,
 }
 
-/// Whether the words ask for a run by several workers. That is the one job whose call may wait: for the turn of another
-/// worker. It takes no memory.
+/// Whether the words ask for a run by several workers, each of which may wait for the turn of another one, or for a run
+/// whose single lines threads submit. No other job's call may wait. It takes no memory.
 pub fn may_wait(words: &[String]) -> bool
     ensures { IsTrue result ↔ MayWait (map string_bytes words.now) }
 {
     match job::words(words) {
-        Some(job) => is_by_crew(&job),
+        Some(job) => waits(&job),
         None => false,
     }
 }
 
-// Whether several workers do it.
-fn is_by_crew(job: &Job) -> bool
-    ensures { IsTrue result ↔ IsByCrew (task job.now) }
+// Whether several workers do it, or threads submit.
+fn waits(job: &Job) -> bool
+    ensures { IsTrue result ↔ Waits (task job.now) }
 {
     matches!(
         job,
         Job::Run {
             workers: Workers::Many(_),
             ..
-        }
+        } | Job::Pool { .. }
     )
 }
 
 /// Does all that the program does: reads the words (those after the program's own name), reads the contract and judges
 /// it, reads the script, reads the journal and replays it or runs the script, and writes what is due: the output, and
-/// behind it the text of the journal where that is wanted. Each source is read only where it is its turn. Nothing is
-/// written before the last memory is taken. Status 7, want of memory, is the one answer for which no reason is given.
-/// Where the words ask for a run by several workers it may wait for them; for all else it does what `nomos_by_one` does.
+/// behind it the text of the journal, or the snapshot, where that is wanted. `journal_in` is the source of the journal,
+/// of what is said in a talk, or of the snapshot at which the script begins, which is read before the script. Each
+/// source is read only where it is its turn. Nothing is written before the last memory is taken. Status 7, want of
+/// memory, is the one answer for which no reason is given. Where the words ask for a run by several workers, or for one
+/// whose lines threads submit, it may wait for them; for all else it does what `nomos_by_one` does.
 pub fn nomos<S: Source, K: Sink, G: Gate, R: Threads + Wait + Sync>(
     rt: &R,
     alloc: Global,
@@ -105,15 +118,17 @@ pub fn nomos<S: Source, K: Sink, G: Gate, R: Threads + Wait + Sync>(
       status = result.status;
       accepted = result.accepted;
       journal = result.journal;
+      taken = result.taken;
     }) }
 
     // What holds of every text: of a contract, and of a script or a journal.
     ensures one_answer { (text : List ℕ) → HasOneAnswer text }
     ensures one_reading { (text : List ℕ) → HasOneReading text }
 
-    // What is not due stays as it was: a source before its turn, the output where memory ran out, and the journal's sink
-    // where nothing is kept.
-    ensures untouched { Untouched (map string_bytes words.now) (S.left script.old) result.status result.accepted
+    // What is not due stays as it was: a source before its turn, the output where memory ran out, and the journal's
+    // sink where nothing is kept.
+    ensures untouched { Untouched (map string_bytes words.now)
+        (record { script = S.left script.old; third = S.left journal_in.old }) result.status result.accepted
         (record {
           contract = contract.old;
           script = script.old;
@@ -133,14 +148,15 @@ pub fn nomos<S: Source, K: Sink, G: Gate, R: Threads + Wait + Sync>(
         return nomos_by_one(alloc, words, contract, script, journal_in, out, journal_out);
     }
     let stage = Stage { rt, gate, alloc };
-    let due = crew_due(&stage, words, contract, script);
+    let due = waiting_due(&stage, words, contract, script);
     let ended = end_call(due, out, journal_out);
     know_accepted(&ended.accepted);
     ended
 }
 
-/// Does all that the program does, as `nomos`, where the words do not ask for a run by several workers. It makes no
-/// thread and waits for nobody, so it is proved to return, whatever its sources have.
+/// Does all that the program does, as `nomos`, where the words ask neither for a run by several workers nor for one
+/// whose lines threads submit. It makes no thread and waits for nobody, so it is proved to return, whatever its sources
+/// have.
 pub fn nomos_by_one<S: Source, K: Sink>(
     alloc: Global,
     words: &[String],
@@ -165,15 +181,17 @@ pub fn nomos_by_one<S: Source, K: Sink>(
       status = result.status;
       accepted = result.accepted;
       journal = result.journal;
+      taken = result.taken;
     }) }
 
     // What holds of every text: of a contract, and of a script or a journal.
     ensures one_answer { (text : List ℕ) → HasOneAnswer text }
     ensures one_reading { (text : List ℕ) → HasOneReading text }
 
-    // What is not due stays as it was: a source before its turn, the output where memory ran out, and the journal's sink
-    // where nothing is kept.
-    ensures untouched { Untouched (map string_bytes words.now) (S.left script.old) result.status result.accepted
+    // What is not due stays as it was: a source before its turn, the output where memory ran out, and the journal's
+    // sink where nothing is kept.
+    ensures untouched { Untouched (map string_bytes words.now)
+        (record { script = S.left script.old; third = S.left journal_in.old }) result.status result.accepted
         (record {
           contract = contract.old;
           script = script.old;
@@ -218,6 +236,7 @@ fn end_call<K: Sink>(due: Result<CallDue, DoneSoFar>, out: &mut K, journal_out: 
           status = result.status;
           accepted = result.accepted;
           journal = result.journal;
+          taken = result.taken;
         })) }
     ensures err { (words : List (List ℕ)) (contract script journal_in : SourceState)
         → IfErr due (EndsPart (record {
@@ -231,6 +250,7 @@ fn end_call<K: Sink>(due: Result<CallDue, DoneSoFar>, out: &mut K, journal_out: 
           status = result.status;
           accepted = result.accepted;
           journal = result.journal;
+          taken = result.taken;
         })) }
     ensures given { result.accepted ≡ given_of due }
     ensures nothing_out { IfErr due (λ _. out.new ≡ out.old) }
@@ -243,6 +263,7 @@ fn end_call<K: Sink>(due: Result<CallDue, DoneSoFar>, out: &mut K, journal_out: 
             status: 7,
             accepted: part.accepted,
             journal: part.journal,
+            taken: part.taken,
         },
     }
 }
@@ -256,18 +277,24 @@ fn write_call<K: Sink>(due: CallDue, out: &mut K, journal_out: &mut K) -> Ended
         result.status }
     ensures accepted { result.accepted ≡ due.accepted }
     ensures journal { result.journal ≡ due.due.journal }
+    ensures taken { result.taken ≡ due.taken }
     ensures none { kept_text due.due ≡ None → journal_out.new ≡ journal_out.old }
 {
-    let CallDue { accepted, due } = due;
+    let CallDue {
+        accepted,
+        due,
+        taken,
+    } = due;
     let status = write_due(&due, out, journal_out);
     Ended {
         status,
         accepted,
         journal: due.journal,
+        taken,
     }
 }
 
-// What is due for words that ask for no run by several workers.
+// What is due for words that ask for nothing that waits.
 fn words_due<S: Source>(
     alloc: Global,
     words: &[String],
@@ -279,19 +306,23 @@ fn words_due<S: Source>(
     ensures ok { IfOk result (IsDueOn (record {
       contract = source_state (S.left contract.old) (S.faults contract.old) (S.faults contract.new);
       script = source_state (S.left script.old) (S.faults script.old) (S.faults script.new);
-      journal = source_state (S.left journal_in.old) (S.faults journal_in.old) (S.faults journal_in.new);
+      third = source_state (S.left journal_in.old) (S.faults journal_in.old) (S.faults journal_in.new);
     }) (map string_bytes words.now)) }
     ensures err { IfErr result (IsPartOn (record {
       contract = source_state (S.left contract.old) (S.faults contract.old) (S.faults contract.new);
       script = source_state (S.left script.old) (S.faults script.old) (S.faults script.new);
-      journal = source_state (S.left journal_in.old) (S.faults journal_in.old) (S.faults journal_in.new);
+      third = source_state (S.left journal_in.old) (S.faults journal_in.old) (S.faults journal_in.new);
     }) (map string_bytes words.now)) }
     ensures contract_unread { ¬ WantsContract (map string_bytes words.now) → contract.new ≡ contract.old }
     ensures script_unread { ¬ WantsScript (map string_bytes words.now) (given_of result) → script.new ≡ script.old }
-    ensures journal_unread { ¬ WantsJournal (map string_bytes words.now) (given_of result)
+    ensures third_unread { ¬ WantsThird (map string_bytes words.now) (given_of result)
         → journal_in.new ≡ journal_in.old }
-    ensures journal_after_script { (text : List ℕ) → S.left script.old ≡ Some text
-        → ((items : List ScriptItem) → ¬ ReadsAs text items) → journal_in.new ≡ journal_in.old }
+    ensures third_after_script { (text : List ℕ) → S.left script.old ≡ Some text
+        → ((items : List ScriptItem) → ¬ ReadsAs text items) → ¬ WantsSnapshot (map string_bytes words.now)
+        → journal_in.new ≡ journal_in.old }
+    ensures script_after_snapshot { (text : List ℕ) (a : Acceptance) → S.left journal_in.old ≡ Some text
+        → given_of result ≡ Some a → ((first : LedgerState) → ¬ Loads a text (Ok first))
+        → WantsSnapshot (map string_bytes words.now) → script.new ≡ script.old }
 {
     match job::words(words) {
         None => line_due(alloc, USUAL_LIMIT, 4, usage_line()),
@@ -315,7 +346,7 @@ fn run_orders(workers: Workers, steps: u32, journal: Option<&str>) -> Orders
     }
 }
 
-// What is due for a job that words ask for, and that is no run by several workers.
+// What is due for a job that words ask for, and that waits for nobody.
 fn job_due<S: Source>(
     alloc: Global,
     job: Job,
@@ -324,23 +355,27 @@ fn job_due<S: Source>(
     journal_in: &mut S,
 ) -> Result<CallDue, DoneSoFar>
     requires asked { (words : List (List ℕ)) × Asks words (task job) }
-    requires alone { ¬ IsByCrew (task job) }
+    requires alone { ¬ Waits (task job) }
     ensures ok { IfOk result (IsTaskDueOn (record {
       contract = source_state (S.left contract.old) (S.faults contract.old) (S.faults contract.new);
       script = source_state (S.left script.old) (S.faults script.old) (S.faults script.new);
-      journal = source_state (S.left journal_in.old) (S.faults journal_in.old) (S.faults journal_in.new);
+      third = source_state (S.left journal_in.old) (S.faults journal_in.old) (S.faults journal_in.new);
     }) (task job.entry)) }
     ensures err { IfErr result (IsTaskPartOn (record {
       contract = source_state (S.left contract.old) (S.faults contract.old) (S.faults contract.new);
       script = source_state (S.left script.old) (S.faults script.old) (S.faults script.new);
-      journal = source_state (S.left journal_in.old) (S.faults journal_in.old) (S.faults journal_in.new);
+      third = source_state (S.left journal_in.old) (S.faults journal_in.old) (S.faults journal_in.new);
     }) (task job.entry)) }
     ensures contract_unread { ¬ ReadsContract (task job.entry) → contract.new ≡ contract.old }
     ensures script_unread { ¬ ReadsScript (task job.entry) ⊎ (given_of result ≡ None) → script.new ≡ script.old }
-    ensures journal_unread { ¬ ReadsJournal (task job.entry) ⊎ (given_of result ≡ None)
+    ensures third_unread { ¬ ReadsThird (task job.entry) ⊎ (given_of result ≡ None)
         → journal_in.new ≡ journal_in.old }
-    ensures journal_after_script { (text : List ℕ) → S.left script.old ≡ Some text
-        → ((items : List ScriptItem) → ¬ ReadsAs text items) → journal_in.new ≡ journal_in.old }
+    ensures third_after_script { (text : List ℕ) → S.left script.old ≡ Some text
+        → ((items : List ScriptItem) → ¬ ReadsAs text items) → ¬ ReadsSnapshot (task job.entry)
+        → journal_in.new ≡ journal_in.old }
+    ensures script_after_snapshot { (text : List ℕ) (a : Acceptance) → S.left journal_in.old ≡ Some text
+        → given_of result ≡ Some a → ((first : LedgerState) → ¬ Loads a text (Ok first))
+        → ReadsSnapshot (task job.entry) → script.new ≡ script.old }
 {
     match job {
         Job::Check { file: _ } => check_due(alloc, contract),
@@ -358,26 +393,48 @@ fn job_due<S: Source>(
         } => replay_due(alloc, contract, script, journal_in),
         Job::Bench { seed, bidders } => bench_due(alloc, Load { seed, bidders }),
         Job::Least { file: _ } => least_due(alloc, contract),
+        Job::Pool {
+            file: _,
+            script: _,
+            threads: _,
+        } => unreachable!(),
+        Job::Talk {
+            file: _,
+            script: _,
+            name,
+            proc,
+            text: _,
+        } => talk_due(alloc, Party { name, proc }, contract, script, journal_in),
+        Job::Save {
+            file: _,
+            script: _,
+            snapshot: _,
+        } => save_due(alloc, contract, script),
+        Job::Resume {
+            file: _,
+            snapshot: _,
+            script: _,
+        } => resume_due(alloc, contract, journal_in, script),
     }
 }
 
-// What is due for words that ask for a run by several workers.
-fn crew_due<S: Source, G: Gate, R: Threads + Wait + Sync>(
+// What is due for words that ask for a run by several workers, or for one whose lines threads submit.
+fn waiting_due<S: Source, G: Gate, R: Threads + Wait + Sync>(
     stage: &Stage<'_, G, R>,
     words: &[String],
     contract: &mut S,
     script: &mut S,
 ) -> Result<CallDue, DoneSoFar>
     requires { MayWait (map string_bytes words.now) }
-    ensures ok { (journal : SourceState) → IfOk result (IsDueOn (record {
+    ensures ok { (third : SourceState) → IfOk result (IsDueOn (record {
       contract = source_state (S.left contract.old) (S.faults contract.old) (S.faults contract.new);
       script = source_state (S.left script.old) (S.faults script.old) (S.faults script.new);
-      journal = journal;
+      third = third;
     }) (map string_bytes words.now)) }
-    ensures err { (journal : SourceState) → IfErr result (IsPartOn (record {
+    ensures err { (third : SourceState) → IfErr result (IsPartOn (record {
       contract = source_state (S.left contract.old) (S.faults contract.old) (S.faults contract.new);
       script = source_state (S.left script.old) (S.faults script.old) (S.faults script.new);
-      journal = journal;
+      third = third;
     }) (map string_bytes words.now)) }
     ensures contract_unread { ¬ WantsContract (map string_bytes words.now) → contract.new ≡ contract.old }
     ensures script_unread { ¬ WantsScript (map string_bytes words.now) (given_of result) → script.new ≡ script.old }
@@ -392,6 +449,13 @@ fn crew_due<S: Source, G: Gate, R: Threads + Wait + Sync>(
                 journal,
             },
         ) => run_due_by_crew(stage, run_orders(workers, steps, journal), contract, script),
+        Some(
+            Job::Pool {
+                file: _,
+                script: _,
+                threads,
+            },
+        ) => pool_due(stage.rt, stage.alloc, threads, contract, script),
         _ => unreachable!(),
     }
 }

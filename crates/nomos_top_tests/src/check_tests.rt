@@ -86,16 +86,21 @@ fn contracts_have_a_limit(rt: HostRuntime) -> Result<(), Fail> {
 const USAGE: &str =
     "4 false 0 (0, 0, 0; 0, 0)\nusage: nomos check FILE | run FILE SCRIPT [--workers N] \
     [--policy first|round] [--steps N] [--journal FILE] | replay FILE SCRIPT JOURNAL | bench SEED BIDDERS \
-    | least FILE\n--\n";
+    | least FILE | pool FILE SCRIPT THREADS | talk FILE SCRIPT NAME PROC TALK | save FILE SCRIPT SNAP \
+    | resume FILE SNAP SCRIPT\n--\n";
 
 // Lines whose words ask for a task, which all read a contract that is cut short.
-const TASKS: [&str; 6] = [
+const TASKS: [&str; 10] = [
     "check a-file",
     "least a",
     "run a b",
     "run a b --workers 16 --steps 10000000 --journal c",
     "run a b --journal c --policy round --workers 1",
     "replay a b c",
+    "pool a b 8",
+    "talk a b - -x c",
+    "save a b c",
+    "resume a b c",
 ];
 
 #[test]
@@ -107,7 +112,7 @@ fn words_ask_for_a_task(rt: HostRuntime) -> Result<(), Fail> {
 }
 
 // Lines whose words ask for nothing.
-const NO_TASKS: [&str; 16] = [
+const NO_TASKS: [&str; 20] = [
     "",
     "least",
     "least -a",
@@ -123,6 +128,10 @@ const NO_TASKS: [&str; 16] = [
     "run a b --workers 2 --policy round",
     "replay a b",
     "bench 0 10001",
+    "pool a b 0",
+    "talk a b c d",
+    "save a b",
+    "resume a b -c",
     "Check a",
 ];
 

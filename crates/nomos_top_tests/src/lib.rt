@@ -9,3 +9,7 @@ mod check_tests;
 mod fault_tests;
 #[cfg(test)]
 mod run_tests;
+#[cfg(test)]
+mod snapshot_tests;
+#[cfg(test)]
+mod talk_tests;

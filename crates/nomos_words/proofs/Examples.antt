@@ -9,7 +9,7 @@ use Rattle.nomos_machine.specs.declared.policy.Policy.TheVariants.{First, Round}
 use Rattle.nomos_words.specs.BenchLoad.{bid, drawn_at, load_script}
 use Rattle.nomos_words.specs.Options.{AreOptions, AreWorkers, option_names}
 use Rattle.nomos_words.specs.Summary.{summary_text}
-use Rattle.nomos_words.specs.Words.{Asks, Task, check, run, replay, bench, least}
+use Rattle.nomos_words.specs.Words.{Asks, Task, check, run, replay, bench, least, pool, talk, save, resume}
 use Rattle.nomos_words.specs.declared.workers.Workers.{Workers}
 use Rattle.nomos_words.specs.declared.workers.Workers.TheVariants.{One, Many}
 use Rattle.nomos_words.proofs.OptionLemmas.{IsKnown}
@@ -31,9 +31,34 @@ replays = (
   refl,
   record {
     are = refl;
+    is_first = λ e. omega (arith, e);
+    is_second = λ e. omega (arith, e);
+    is_third = λ e. omega (arith, e);
+  },
+)
+
+-- the names of a talk are any words, and so may be empty
+talks : Asks (codes "talk" ∷ codes "c" ∷ codes "s" ∷ [] ∷ codes "-p" ∷ codes "t" ∷ [])
+    (talk (codes "c") (codes "s") [] (codes "-p") (codes "t"))
+talks = (
+  refl,
+  record {
+    are = refl;
     is_file = λ e. omega (arith, e);
     is_script = λ e. omega (arith, e);
-    is_journal = λ e. omega (arith, e);
+    is_text = λ e. omega (arith, e);
+  },
+)
+
+-- the snapshot stands before the script where a run goes on from it
+resumes : Asks (codes "resume" ∷ codes "c" ∷ codes "n" ∷ codes "s" ∷ []) (resume (codes "c") (codes "n") (codes "s"))
+resumes = (
+  refl,
+  record {
+    are = refl;
+    is_first = λ e. omega (arith, e);
+    is_second = λ e. omega (arith, e);
+    is_third = λ e. omega (arith, e);
   },
 )
 
@@ -59,6 +84,10 @@ no_file (run f s w n j) asks = omega (arith, ap (λ w. get_or w 0 0) asks.0)
 no_file (replay f s j) asks = omega (arith, ap (λ w. get_or w 0 0) asks.0)
 no_file (bench s b) asks = omega (arith, ap (λ w. get_or w 0 0) asks.0)
 no_file (least f) asks = omega (arith, ap (λ w. get_or w 0 0) asks.0)
+no_file (pool f s n) asks = omega (arith, ap (λ w. get_or w 0 0) asks.0)
+no_file (talk f s n p t) asks = omega (arith, ap (λ w. get_or w 0 0) asks.0)
+no_file (save f s n) asks = omega (arith, ap (λ w. get_or w 0 0) asks.0)
+no_file (resume f n s) asks = omega (arith, ap (λ w. get_or w 0 0) asks.0)
 
 -- a run without options
 runs : Asks (run_with []) (run (codes "c") (codes "s") (One First) 1000000 None)

@@ -4,7 +4,7 @@ use Rattle.std.specs.Prelude.{codes}
 use Rattle.std.proofs.lemmas.Option.{same_Some}
 use Rattle.nomos_words.specs.FindsOne.{FindsOne}
 use Rattle.nomos_words.specs.Options.{AreSteps, AreWorkers, IsFileWord}
-use Rattle.nomos_words.specs.Words.{Asks, Task, check, run, replay, bench, least}
+use Rattle.nomos_words.specs.Words.{Asks, Task, check, run, replay, bench, least, pool, talk, save, resume}
 use Rattle.nomos_words.specs.mirror.GivenOptions.{AreGiven, OptionValues, given_by}
 use Rattle.nomos_words.specs.declared.workers.Workers.{Workers}
 use Rattle.nomos_words.proofs.FindsOneLaws.{FindsOne-none, FindsOne-some}
@@ -49,6 +49,10 @@ run_says file script behind (check f) (is, asks) = absurd (omega (arith, ap (λ 
 run_says file script behind (replay f s j) (is, asks) = absurd (omega (arith, ap (λ w. get_or w 1 0) is))
 run_says file script behind (bench s b) (is, asks) = absurd (omega (arith, ap (λ w. get_or w 0 0) is))
 run_says file script behind (least f) (is, asks) = absurd (omega (arith, ap (λ w. get_or w 0 0) is))
+run_says file script behind (pool f s n) (is, asks) = absurd (omega (arith, ap (λ w. get_or w 0 0) is))
+run_says file script behind (talk f s n p t) (is, asks) = absurd (omega (arith, ap (λ w. get_or w 0 0) is))
+run_says file script behind (save f s n) (is, asks) = absurd (omega (arith, ap (λ w. get_or w 0 0) is))
+run_says file script behind (resume f n s) (is, asks) = absurd (omega (arith, ap (λ w. get_or w 1 0) is))
 
 -- the words behind are no options
 pub run_without_options : (file script : List ℕ) (behind : List (List ℕ)) → FindsOne (AreGiven behind) None

@@ -1,12 +1,12 @@
 -- Words ask for one task, and what holds of every task that they ask for.
-use Rattle.std.proofs.Common.{◌≡◌, ℕ, ◌<◌, ◌≤◌, ◌^◌, List, [], ◌∷◌, ◌++◌, drop, get_or, Option, Some, None, refl, sym, ap, subst, ◌∙◌, arith}
+use Rattle.std.proofs.Common.{◌≡◌, ◌≢◌, ℕ, ◌+◌, ◌*◌, ◌<◌, ◌≤◌, ◌^◌, List, [], ◌∷◌, ◌++◌, drop, get_or, Option, Some, None, refl, sym, ap, subst, ◌∙◌, arith}
 use Rattle.std.specs.Prelude.{codes, decimal}
 use Rattle.std.proofs.lemmas.List.{append-nil}
 use Rattle.nomos_machine.specs.declared.policy.Policy.{Policy}
 use Rattle.nomos_machine.specs.declared.policy.Policy.TheVariants.{First, Round}
 use Rattle.nomos_texts.proofs.OneTextLaws.{decimal-only}
 use Rattle.nomos_words.specs.Options.{AreSteps, AreWorkers, IsCountOr, IsPolicy, policy_word, option_value, option_words}
-use Rattle.nomos_words.specs.Words.{AreOperands, Asks, AsksLoad, AsksRun, Task, check, command, run, replay, bench, least}
+use Rattle.nomos_words.specs.Words.{AreOperands, Asks, AsksFile, AsksFiles, AsksLoad, AsksPool, AsksRun, AsksTalk, Task, check, command, run, replay, bench, least, pool, talk, save, resume}
 use Rattle.nomos_words.specs.declared.workers.Workers.{Workers}
 use Rattle.nomos_words.specs.declared.workers.Workers.TheVariants.{One, Many}
 use Rattle.nomos_words.proofs.GivenOptionLemmas.{none_left}
@@ -80,40 +80,130 @@ load_same words s b s' b' one other =
     ∙ ap (λ x. bench s' x)
     (decimal-only b b' (omega (arith, one.are_bidders.1)) (omega (arith, other.are_bidders.1)) bidders)
 
-same_task : (words : List (List ℕ)) (t u : Task) → command t ≡ command u → AreOperands words t → AreOperands words u
-    → t ≡ u
-same_task words (check f) (check f') e a b =
-    let none : List ℕ = [] in ap (λ x. check x) (ap (λ ws. get_or ws 0 none) (sym a.are ∙ b.are))
-same_task words (check f) (run f' s' w' n' j') e a b = absurd (omega (arith, ap (λ w. get_or w 0 0) e))
-same_task words (check f) (replay f' s' j') e a b = absurd (omega (arith, ap (λ w. get_or w 0 0) e))
-same_task words (check f) (bench s' k') e a b = absurd (omega (arith, ap (λ w. get_or w 0 0) e))
-same_task words (check f) (least f') e a b = absurd (omega (arith, ap (λ w. get_or w 0 0) e))
-same_task words (run f s w n j) (check f') e a b = absurd (omega (arith, ap (λ w. get_or w 0 0) e))
-same_task words (run f s w n j) (run f' s' w' n' j') e a b = run_same words f s w n j f' s' w' n' j' a b
-same_task words (run f s w n j) (replay f' s' j') e a b = absurd (omega (arith, ap (λ w. get_or w 1 0) e))
-same_task words (run f s w n j) (bench s' k') e a b = absurd (omega (arith, ap (λ w. get_or w 0 0) e))
-same_task words (run f s w n j) (least f') e a b = absurd (omega (arith, ap (λ w. get_or w 0 0) e))
-same_task words (replay f s j) (check f') e a b = absurd (omega (arith, ap (λ w. get_or w 0 0) e))
-same_task words (replay f s j) (run f' s' w' n' j') e a b = absurd (omega (arith, ap (λ w. get_or w 1 0) e))
-same_task words (replay f s j) (replay f' s' j') e a b =
+file_same : (words : List (List ℕ)) (f f' : List ℕ) → AsksFile words f → AsksFile words f' → f ≡ f'
+file_same words f f' a b = let none : List ℕ = [] in ap (λ ws. get_or ws 0 none) (sym a.are ∙ b.are)
+
+files_same : (words : List (List ℕ)) (f s t f' s' t' : List ℕ) → AsksFiles words f s t → AsksFiles words f' s' t'
+    → (task : List ℕ → List ℕ → List ℕ → Task) → task f s t ≡ task f' s' t'
+files_same words f s t f' s' t' a b task =
     let none : List ℕ = [] in
     let same = sym a.are ∙ b.are in
-    ap (λ x. replay x s j) (ap (λ ws. get_or ws 0 none) same)
-    ∙ ap (λ x. replay f' x j) (ap (λ ws. get_or ws 1 none) same)
-    ∙ ap (λ x. replay f' s' x) (ap (λ ws. get_or ws 2 none) same)
-same_task words (replay f s j) (bench s' k') e a b = absurd (omega (arith, ap (λ w. get_or w 0 0) e))
-same_task words (replay f s j) (least f') e a b = absurd (omega (arith, ap (λ w. get_or w 0 0) e))
-same_task words (bench s k) (check f') e a b = absurd (omega (arith, ap (λ w. get_or w 0 0) e))
-same_task words (bench s k) (run f' s' w' n' j') e a b = absurd (omega (arith, ap (λ w. get_or w 0 0) e))
-same_task words (bench s k) (replay f' s' j') e a b = absurd (omega (arith, ap (λ w. get_or w 0 0) e))
+    ap (λ x. task x s t) (ap (λ ws. get_or ws 0 none) same)
+    ∙ ap (λ x. task f' x t) (ap (λ ws. get_or ws 1 none) same)
+    ∙ ap (λ x. task f' s' x) (ap (λ ws. get_or ws 2 none) same)
+
+pool_same : (words : List (List ℕ)) (f s : List ℕ) (n : ℕ) (f' s' : List ℕ) (n' : ℕ) → AsksPool words f s n
+    → AsksPool words f' s' n' → pool f s n ≡ pool f' s' n'
+pool_same words f s n f' s' n' a b =
+    let none : List ℕ = [] in
+    let same = sym a.are ∙ b.are in
+    let threads : decimal n ≡ decimal n' = sym a.are_threads.2 ∙ ap (λ ws. get_or ws 2 none) same ∙ b.are_threads.2 in
+    ap (λ x. pool x s n) (ap (λ ws. get_or ws 0 none) same)
+    ∙ ap (λ x. pool f' x n) (ap (λ ws. get_or ws 1 none) same)
+    ∙ ap (λ x. pool f' s' x)
+    (decimal-only n n' (omega (arith, a.are_threads.1)) (omega (arith, b.are_threads.1)) threads)
+
+talk_same : (words : List (List ℕ)) (f s n p x f' s' n' p' x' : List ℕ) → AsksTalk words f s n p x
+    → AsksTalk words f' s' n' p' x' → talk f s n p x ≡ talk f' s' n' p' x'
+talk_same words f s n p x f' s' n' p' x' a b =
+    let none : List ℕ = [] in
+    let same = sym a.are ∙ b.are in
+    ap (λ y. talk y s n p x) (ap (λ ws. get_or ws 0 none) same)
+    ∙ ap (λ y. talk f' y n p x) (ap (λ ws. get_or ws 1 none) same)
+    ∙ ap (λ y. talk f' s' y p x) (ap (λ ws. get_or ws 2 none) same)
+    ∙ ap (λ y. talk f' s' n' y x) (ap (λ ws. get_or ws 3 none) same)
+    ∙ ap (λ y. talk f' s' n' p' y) (ap (λ ws. get_or ws 4 none) same)
+
+-- by its first letter, its second or its third a command differs from each other one
+abbrev letters : List ℕ → ℕ
+letters word = get_or word 0 0 + 256 * get_or word 1 0 + 65536 * get_or word 2 0
+
+other_words : {word other : List ℕ} {P : Type 0} → word ≡ other → letters word ≢ letters other → P
+other_words e differ = absurd (differ (ap letters e))
+
+same_task : (words : List (List ℕ)) (t u : Task) → command t ≡ command u → AreOperands words t → AreOperands words u
+    → t ≡ u
+same_task words (check f) (check f') e a b = ap (λ x. check x) (file_same words f f' a b)
+same_task words (check f) (run f' s' w' n' j') e a b = other_words e (λ d. omega (arith, d))
+same_task words (check f) (replay f' s' j') e a b = other_words e (λ d. omega (arith, d))
+same_task words (check f) (bench s' k') e a b = other_words e (λ d. omega (arith, d))
+same_task words (check f) (least f') e a b = other_words e (λ d. omega (arith, d))
+same_task words (check f) (pool f' s' n') e a b = other_words e (λ d. omega (arith, d))
+same_task words (check f) (talk f' s' n' p' x') e a b = other_words e (λ d. omega (arith, d))
+same_task words (check f) (save f' s' n') e a b = other_words e (λ d. omega (arith, d))
+same_task words (check f) (resume f' n' s') e a b = other_words e (λ d. omega (arith, d))
+same_task words (run f s w n j) (check f') e a b = other_words e (λ d. omega (arith, d))
+same_task words (run f s w n j) (run f' s' w' n' j') e a b = run_same words f s w n j f' s' w' n' j' a b
+same_task words (run f s w n j) (replay f' s' j') e a b = other_words e (λ d. omega (arith, d))
+same_task words (run f s w n j) (bench s' k') e a b = other_words e (λ d. omega (arith, d))
+same_task words (run f s w n j) (least f') e a b = other_words e (λ d. omega (arith, d))
+same_task words (run f s w n j) (pool f' s' n') e a b = other_words e (λ d. omega (arith, d))
+same_task words (run f s w n j) (talk f' s' n' p' x') e a b = other_words e (λ d. omega (arith, d))
+same_task words (run f s w n j) (save f' s' n') e a b = other_words e (λ d. omega (arith, d))
+same_task words (run f s w n j) (resume f' n' s') e a b = other_words e (λ d. omega (arith, d))
+same_task words (replay f s j) (check f') e a b = other_words e (λ d. omega (arith, d))
+same_task words (replay f s j) (run f' s' w' n' j') e a b = other_words e (λ d. omega (arith, d))
+same_task words (replay f s j) (replay f' s' j') e a b = files_same words f s j f' s' j' a b (λ x y z. replay x y z)
+same_task words (replay f s j) (bench s' k') e a b = other_words e (λ d. omega (arith, d))
+same_task words (replay f s j) (least f') e a b = other_words e (λ d. omega (arith, d))
+same_task words (replay f s j) (pool f' s' n') e a b = other_words e (λ d. omega (arith, d))
+same_task words (replay f s j) (talk f' s' n' p' x') e a b = other_words e (λ d. omega (arith, d))
+same_task words (replay f s j) (save f' s' n') e a b = other_words e (λ d. omega (arith, d))
+same_task words (replay f s j) (resume f' n' s') e a b = other_words e (λ d. omega (arith, d))
+same_task words (bench s k) (check f') e a b = other_words e (λ d. omega (arith, d))
+same_task words (bench s k) (run f' s' w' n' j') e a b = other_words e (λ d. omega (arith, d))
+same_task words (bench s k) (replay f' s' j') e a b = other_words e (λ d. omega (arith, d))
 same_task words (bench s k) (bench s' k') e a b = load_same words s k s' k' a b
-same_task words (bench s k) (least f') e a b = absurd (omega (arith, ap (λ w. get_or w 0 0) e))
-same_task words (least f) (check f') e a b = absurd (omega (arith, ap (λ w. get_or w 0 0) e))
-same_task words (least f) (run f' s' w' n' j') e a b = absurd (omega (arith, ap (λ w. get_or w 0 0) e))
-same_task words (least f) (replay f' s' j') e a b = absurd (omega (arith, ap (λ w. get_or w 0 0) e))
-same_task words (least f) (bench s' k') e a b = absurd (omega (arith, ap (λ w. get_or w 0 0) e))
-same_task words (least f) (least f') e a b =
-    let none : List ℕ = [] in ap (λ x. least x) (ap (λ ws. get_or ws 0 none) (sym a.are ∙ b.are))
+same_task words (bench s k) (least f') e a b = other_words e (λ d. omega (arith, d))
+same_task words (bench s k) (pool f' s' n') e a b = other_words e (λ d. omega (arith, d))
+same_task words (bench s k) (talk f' s' n' p' x') e a b = other_words e (λ d. omega (arith, d))
+same_task words (bench s k) (save f' s' n') e a b = other_words e (λ d. omega (arith, d))
+same_task words (bench s k) (resume f' n' s') e a b = other_words e (λ d. omega (arith, d))
+same_task words (least f) (check f') e a b = other_words e (λ d. omega (arith, d))
+same_task words (least f) (run f' s' w' n' j') e a b = other_words e (λ d. omega (arith, d))
+same_task words (least f) (replay f' s' j') e a b = other_words e (λ d. omega (arith, d))
+same_task words (least f) (bench s' k') e a b = other_words e (λ d. omega (arith, d))
+same_task words (least f) (least f') e a b = ap (λ x. least x) (file_same words f f' a b)
+same_task words (least f) (pool f' s' n') e a b = other_words e (λ d. omega (arith, d))
+same_task words (least f) (talk f' s' n' p' x') e a b = other_words e (λ d. omega (arith, d))
+same_task words (least f) (save f' s' n') e a b = other_words e (λ d. omega (arith, d))
+same_task words (least f) (resume f' n' s') e a b = other_words e (λ d. omega (arith, d))
+same_task words (pool f s n) (check f') e a b = other_words e (λ d. omega (arith, d))
+same_task words (pool f s n) (run f' s' w' n' j') e a b = other_words e (λ d. omega (arith, d))
+same_task words (pool f s n) (replay f' s' j') e a b = other_words e (λ d. omega (arith, d))
+same_task words (pool f s n) (bench s' k') e a b = other_words e (λ d. omega (arith, d))
+same_task words (pool f s n) (least f') e a b = other_words e (λ d. omega (arith, d))
+same_task words (pool f s n) (pool f' s' n') e a b = pool_same words f s n f' s' n' a b
+same_task words (pool f s n) (talk f' s' n' p' x') e a b = other_words e (λ d. omega (arith, d))
+same_task words (pool f s n) (save f' s' n') e a b = other_words e (λ d. omega (arith, d))
+same_task words (pool f s n) (resume f' n' s') e a b = other_words e (λ d. omega (arith, d))
+same_task words (talk f s n p x) (check f') e a b = other_words e (λ d. omega (arith, d))
+same_task words (talk f s n p x) (run f' s' w' n' j') e a b = other_words e (λ d. omega (arith, d))
+same_task words (talk f s n p x) (replay f' s' j') e a b = other_words e (λ d. omega (arith, d))
+same_task words (talk f s n p x) (bench s' k') e a b = other_words e (λ d. omega (arith, d))
+same_task words (talk f s n p x) (least f') e a b = other_words e (λ d. omega (arith, d))
+same_task words (talk f s n p x) (pool f' s' n') e a b = other_words e (λ d. omega (arith, d))
+same_task words (talk f s n p x) (talk f' s' n' p' x') e a b = talk_same words f s n p x f' s' n' p' x' a b
+same_task words (talk f s n p x) (save f' s' n') e a b = other_words e (λ d. omega (arith, d))
+same_task words (talk f s n p x) (resume f' n' s') e a b = other_words e (λ d. omega (arith, d))
+same_task words (save f s n) (check f') e a b = other_words e (λ d. omega (arith, d))
+same_task words (save f s n) (run f' s' w' n' j') e a b = other_words e (λ d. omega (arith, d))
+same_task words (save f s n) (replay f' s' j') e a b = other_words e (λ d. omega (arith, d))
+same_task words (save f s n) (bench s' k') e a b = other_words e (λ d. omega (arith, d))
+same_task words (save f s n) (least f') e a b = other_words e (λ d. omega (arith, d))
+same_task words (save f s n) (pool f' s' n') e a b = other_words e (λ d. omega (arith, d))
+same_task words (save f s n) (talk f' s' n' p' x') e a b = other_words e (λ d. omega (arith, d))
+same_task words (save f s n) (save f' s' n') e a b = files_same words f s n f' s' n' a b (λ x y z. save x y z)
+same_task words (save f s n) (resume f' n' s') e a b = other_words e (λ d. omega (arith, d))
+same_task words (resume f n s) (check f') e a b = other_words e (λ d. omega (arith, d))
+same_task words (resume f n s) (run f' s' w' n' j') e a b = other_words e (λ d. omega (arith, d))
+same_task words (resume f n s) (replay f' s' j') e a b = other_words e (λ d. omega (arith, d))
+same_task words (resume f n s) (bench s' k') e a b = other_words e (λ d. omega (arith, d))
+same_task words (resume f n s) (least f') e a b = other_words e (λ d. omega (arith, d))
+same_task words (resume f n s) (pool f' s' n') e a b = other_words e (λ d. omega (arith, d))
+same_task words (resume f n s) (talk f' s' n' p' x') e a b = other_words e (λ d. omega (arith, d))
+same_task words (resume f n s) (save f' s' n') e a b = other_words e (λ d. omega (arith, d))
+same_task words (resume f n s) (resume f' n' s') e a b = files_same words f n s f' n' s' a b (λ x y z. resume x y z)
 
 -- words ask for one task
 pub one_task : (words : List (List ℕ)) (t u : Task) → Asks words t → Asks words u → t ≡ u
@@ -144,3 +234,9 @@ steps_within [] file script workers steps journal asks = absurd asks
 steps_within (word ∷ words) file script workers steps journal asks =
     count_within 1000000 10000000 steps (omega arith) (omega arith) (option_value (codes "--steps") asks.1.options)
     asks.1.steps_are
+
+-- where threads submit, they are from 1 to 8
+pub some_threads : (words : List (List ℕ)) (file script : List ℕ) (threads : ℕ) → Asks words (pool file script threads)
+    → (1 ≤ threads) × (threads ≤ 8)
+some_threads [] file script threads asks = absurd asks
+some_threads (word ∷ words) file script threads asks = (asks.1.are_threads.0, asks.1.are_threads.1)

@@ -5,4 +5,5 @@ use Rattle.std.specs.Prelude.{ℕ, List, ◌++◌, codes}
 unfoldable pub usage_line : List ℕ
 usage_line =
     codes "usage: nomos check FILE | run FILE SCRIPT [--workers N] [--policy first|round] [--steps N] [--journal FILE]"
-    ++ codes " | replay FILE SCRIPT JOURNAL | bench SEED BIDDERS | least FILE\n"
+    ++ codes " | replay FILE SCRIPT JOURNAL | bench SEED BIDDERS | least FILE | pool FILE SCRIPT THREADS"
+    ++ codes " | talk FILE SCRIPT NAME PROC TALK | save FILE SCRIPT SNAP | resume FILE SNAP SCRIPT\n"

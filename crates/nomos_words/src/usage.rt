@@ -9,5 +9,6 @@ pub fn usage_line() -> &'static [u8]
     ensures { result.now ≡ usage_line }
 {
     b"usage: nomos check FILE | run FILE SCRIPT [--workers N] [--policy first|round] [--steps N] [--journal FILE] \
-    | replay FILE SCRIPT JOURNAL | bench SEED BIDDERS | least FILE\n"
+    | replay FILE SCRIPT JOURNAL | bench SEED BIDDERS | least FILE | pool FILE SCRIPT THREADS \
+    | talk FILE SCRIPT NAME PROC TALK | save FILE SCRIPT SNAP | resume FILE SNAP SCRIPT\n"
 }

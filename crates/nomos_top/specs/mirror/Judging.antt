@@ -6,12 +6,15 @@ use Rattle.nomos_accept.specs.declared.refusal.AcceptError.{AcceptError}
 use Rattle.nomos_accept.specs.declared.refusal.AcceptError.TheVariants as error
 use Rattle.nomos_due.specs.Lines.{no_entries, read_fault_line}
 use Rattle.nomos_due.specs.Outside.{HasText, HaveRisen, SourceState, input_of}
-use Rattle.nomos_due.specs.Sources.{kept_text}
+use Rattle.nomos_due.specs.Sources.{IsPoolDueFor, IsPoolPartFor, kept_text}
 use Rattle.nomos_due.specs.Written.{HasWrittenOut}
 use Rattle.nomos_due.specs.declared.due.Due.{Due}
+use Rattle.nomos_due.specs.declared.pools.PoolDue.{PoolDue}
+use Rattle.nomos_due.specs.declared.pools.PoolPart.{PoolPart}
 use Rattle.nomos_least.specs.LeastBounds.{IsLeastAs}
 use Rattle.nomos_least.specs.declared.least.LeastBounds.{LeastBounds}
 use Rattle.nomos_legal.specs.declared.journal.Journal.{Journal}
+use Rattle.nomos_script.specs.declared.item.ScriptItem.{ScriptItem}
 use Rattle.nomos_simplex.specs.declared.solved.Stop.{Stop}
 use Rattle.nomos_top.specs.Seen.{Call, Texts}
 use Rattle.nomos_top.specs.Outcome.{Inputs, Outcome, IsTaskDue, IsTaskPart, IsDue, IsPart, bare}
@@ -72,17 +75,38 @@ outcome_of d = record {
   kept = kept_text d.due;
   accepted = d.accepted;
   journal = d.due.journal;
+  taken = d.taken;
 }
 
 -- what is due behind the acceptance of a program, with it
 abbrev pub behind_of : Acceptance → Result Due Journal → Result CallDue DoneSoFar
-behind_of a (Ok d) = Ok (record { accepted = Some a; due = d })
-behind_of a (Err j) = Err (record { accepted = Some a; journal = j })
+behind_of a (Ok d) = Ok (record { accepted = Some a; due = d; taken = None })
+behind_of a (Err j) = Err (record { accepted = Some a; journal = j; taken = None })
+
+-- the same where threads submit, with what was taken
+abbrev pub pooled_behind_of : Acceptance → Result PoolDue PoolPart → Result CallDue DoneSoFar
+pooled_behind_of a (Ok p) = Ok (record { accepted = Some a; due = p.due; taken = p.taken })
+pooled_behind_of a (Err p) = Err (record { accepted = Some a; journal = p.journal; taken = p.taken })
+
+-- what is due where threads submit, behind the acceptance of a program
+pub record IsPooledBehind (a : Acceptance) (threads : ℕ) (script : SourceState) (d : CallDue) : Type 0 where
+  pub pool : PoolDue
+  pub is : IsPoolDueFor a threads script pool
+  pub due : d.due ≡ pool.due
+  pub taken : d.taken ≡ pool.taken
+
+-- what is known of it where memory was wanting
+pub record IsPooledBehindPart (a : Acceptance) (threads : ℕ) (script : SourceState) (part : DoneSoFar) : Type 0 where
+  pub pool : PoolPart
+  pub is : IsPoolPartFor a threads script pool
+  pub journal : part.journal ≡ pool.journal
+  pub taken : part.taken ≡ pool.taken
 
 -- nothing was done
 pub record IsNothing (limit : ℕ) (part : DoneSoFar) : Type 0 where
   pub accepted : part.accepted ≡ None
   pub journal : part.journal ≡ no_entries limit
+  pub taken : part.taken ≡ None
 
 -- what is due of a contract that is not accepted
 abbrev pub IsDueOut : ℕ → Unaccepted → CallDue → Type 0
@@ -97,13 +121,13 @@ IsDueOut limit unaccepted.NoMemory d = ⊥
 pub record Sources : Type 0 where
   pub contract : SourceState
   pub script : SourceState
-  pub journal : SourceState
+  pub third : SourceState
 
 abbrev pub inputs_on : Sources → Texts → Inputs
 inputs_on s t = record {
   contract = input_of s.contract t.contract;
   script = input_of s.script t.script;
-  journal = input_of s.journal t.journal;
+  third = input_of s.third t.third;
 }
 
 -- this holds on texts that the sources have left, where they tell that
@@ -111,7 +135,7 @@ pub record OnTexts (s : Sources) (Holds : Inputs → Type 0) : Type 0 where
   pub texts : Texts
   pub contract_told : HasText s.contract.left texts.contract
   pub script_told : HasText s.script.left texts.script
-  pub journal_told : HasText s.journal.left texts.journal
+  pub third_told : HasText s.third.left texts.third
   pub holds : Holds (inputs_on s texts)
 
 -- it is due for the task, or for the words
@@ -123,15 +147,20 @@ IsDueOn s words d = OnTexts s (λ i. IsDue words i (outcome_of d))
 
 -- this is what is known for the task, or for the words, where memory was wanting
 abbrev pub IsTaskPartOn : Sources → Task → DoneSoFar → Type 0
-IsTaskPartOn s task part = OnTexts s (λ i. IsTaskPart i task part.accepted part.journal)
+IsTaskPartOn s task part = OnTexts s (λ i. IsTaskPart i task part.accepted part.journal part.taken)
 
 abbrev pub IsPartOn : Sources → List (List ℕ) → DoneSoFar → Type 0
-IsPartOn s words part = OnTexts s (λ i. IsPart words i part.accepted part.journal)
+IsPartOn s words part = OnTexts s (λ i. IsPart words i part.accepted part.journal part.taken)
 
 -- the program that is given with what is due, or with what is known where memory was wanting
 abbrev pub given_of : Result CallDue DoneSoFar → Option Acceptance
 given_of (Ok d) = d.accepted
 given_of (Err part) = part.accepted
+
+-- what was taken of the script, in the same way
+abbrev pub taken_of : Result CallDue DoneSoFar → Option (List ScriptItem)
+taken_of (Ok d) = d.taken
+taken_of (Err part) = part.taken
 
 -- ---- how a call ends
 
@@ -140,6 +169,7 @@ pub record EndsDue (c : Call) (d : CallDue) : Type 0 where
   pub written : HasWrittenOut d.due.status d.due.out.items (kept_text d.due) c.out c.journal_out c.status
   pub accepted : c.accepted ≡ d.accepted
   pub journal : c.journal ≡ d.due.journal
+  pub taken : c.taken ≡ d.taken
 
 -- the call has written nothing, and gives what was done
 pub record EndsPart (c : Call) (part : DoneSoFar) : Type 0 where
@@ -148,3 +178,4 @@ pub record EndsPart (c : Call) (part : DoneSoFar) : Type 0 where
   pub journal_out : c.journal_out.after ≡ c.journal_out.before
   pub accepted : c.accepted ≡ part.accepted
   pub journal : c.journal ≡ part.journal
+  pub taken : c.taken ≡ part.taken

@@ -12,8 +12,8 @@ returns-in-TooLong-clause-ok c = λ script over.
 
 pub returns-in-Syntax-clause-ok : goal.returns-in-Syntax-clause-ok
 returns-in-Syntax-clause-ok c = λ script bad.
-    if_ok-map c.syntax_due.result _ _
-    (λ due bare. bare-of script c.args.limit 2 _ due (syntax c.in-Syntax.line (subst (IsMissing script) c.in-Syntax.is bad)) bare) c.syntax_due.ensures.ok
+    if_ok-map c.refused_at_due.result _ _
+    (λ due bare. bare-of script c.args.limit 2 _ due (syntax c.in-Syntax.line (subst (IsMissing script) c.in-Syntax.is bad)) bare) c.refused_at_due.ensures.ok
 
 pub returns-in-ReadFault-clause-ok : goal.returns-in-ReadFault-clause-ok
 returns-in-ReadFault-clause-ok c = λ script rose.

@@ -1,6 +1,6 @@
 use Rattle.std.proofs.Common.{ap}
 use Rattle.nomos_machine.specs.declared.policy.Policy.TheVariants as policy
-use Rattle.nomos_top.proofs.DueLemmas.{behind-err, behind-given, behind-ok}
+use Rattle.nomos_top.proofs.DueLemmas.{behind-err, behind-given, behind-ok, behind-untaken}
 use Rattle.nomos_top.proofs.scripts.accepted_bench_due.Goals as goal
 
 pub indexed_bench_due-due-requires-clause-one : goal.indexed_bench_due-due-requires-clause-one
@@ -20,3 +20,6 @@ returns-clause-err c = rw c.due_behind.ensures
 
 pub returns-clause-given : goal.returns-clause-given
 returns-clause-given c = rw c.due_behind.ensures (behind-given c.args.accepted c.indexed_bench_due-due.result)
+
+pub returns-clause-untaken : goal.returns-clause-untaken
+returns-clause-untaken c = rw c.due_behind.ensures (behind-untaken c.args.accepted c.indexed_bench_due-due.result)

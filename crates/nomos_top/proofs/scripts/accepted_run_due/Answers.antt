@@ -1,4 +1,4 @@
-use Rattle.nomos_top.proofs.DueLemmas.{behind-err, behind-given, behind-ok}
+use Rattle.nomos_top.proofs.DueLemmas.{behind-err, behind-given, behind-ok, behind-untaken}
 use Rattle.nomos_top.proofs.scripts.accepted_run_due.Goals as goal
 
 pub returns-clause-ok : goal.returns-clause-ok
@@ -11,3 +11,6 @@ returns-clause-err g c =
 
 pub returns-clause-given : goal.returns-clause-given
 returns-clause-given g c = rw c.due_behind.ensures (behind-given c.args.accepted c.run_due-due.result)
+
+pub returns-clause-untaken : goal.returns-clause-untaken
+returns-clause-untaken g c = rw c.due_behind.ensures (behind-untaken c.args.accepted c.run_due-due.result)

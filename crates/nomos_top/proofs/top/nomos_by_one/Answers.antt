@@ -28,8 +28,11 @@ returns-clause-untouched g c =
     record {
       contract = c.words_due-due.ensures.contract_unread;
       script = λ none. c.words_due-due.ensures.script_unread (rw c.end_call-ended.ensures.given at none);
-      journal = λ none. c.words_due-due.ensures.journal_unread (rw c.end_call-ended.ensures.given at none);
-      behind_script = c.words_due-due.ensures.journal_after_script;
+      third = λ none. c.words_due-due.ensures.third_unread (rw c.end_call-ended.ensures.given at none);
+      behind_script = c.words_due-due.ensures.third_after_script;
+      behind_snapshot = λ text a left gives never wants.
+          c.words_due-due.ensures.script_after_snapshot text a left (rw c.end_call-ended.ensures.given at gives) never
+          wants;
       out = λ seven.
           seven-wanting _ c.words_due-due.result _ _ c.words_due-due.ensures.ok
           (c.end_call-ended.ensures.ok words untold untold untold)

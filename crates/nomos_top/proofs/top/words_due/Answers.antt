@@ -1,11 +1,12 @@
-use Rattle.std.proofs.Common.{None, refl, map, string_bytes}
+use Rattle.std.proofs.Common.{None, refl, map, string_bytes, subst}
 use Rattle.nomos_due.proofs.SourceLemmas.{if_ok-map, if_err-map}
 use Rattle.nomos_top.proofs.CallLemmas.{unwanted}
 use Rattle.nomos_top.proofs.DueLemmas.{due-asked, due-usage, found-none, part-asked, part-usage}
 use Rattle.nomos_top.proofs.top.words_due.Goals as goal
-use Rattle.nomos_top.specs.Tasks.{ReadsJournal, ReadsScript}
+use Rattle.nomos_top.specs.Tasks.{ReadsScript, ReadsSnapshot, ReadsThird}
 use Rattle.nomos_top.specs.mirror.Judging.{given_of}
 use Rattle.nomos_words.specs.Jobs.{task}
+use Rattle.nomos_words.proofs.WordLaws.{one_task}
 
 pub returns-in-None-clause-ok : goal.returns-in-None-clause-ok
 returns-in-None-clause-ok g c =
@@ -43,8 +44,19 @@ returns-in-Some-clause-script_unread g c = λ none.
     c.job_due.ensures.script_unread
     (unwanted words (task c.in-Some.job) c.in-Some.ensures.found ReadsScript (given_of c.job_due.result) none)
 
-pub returns-in-Some-clause-journal_unread : goal.returns-in-Some-clause-journal_unread
-returns-in-Some-clause-journal_unread g c = λ none.
+pub returns-in-Some-clause-third_unread : goal.returns-in-Some-clause-third_unread
+returns-in-Some-clause-third_unread g c = λ none.
     let words = map string_bytes c.args.words.now in
-    c.job_due.ensures.journal_unread
-    (unwanted words (task c.in-Some.job) c.in-Some.ensures.found ReadsJournal (given_of c.job_due.result) none)
+    c.job_due.ensures.third_unread
+    (unwanted words (task c.in-Some.job) c.in-Some.ensures.found ReadsThird (given_of c.job_due.result) none)
+
+pub returns-in-Some-clause-third_after_script : goal.returns-in-Some-clause-third_after_script
+returns-in-Some-clause-third_after_script g c = λ text left never no_snapshot.
+    c.job_due.ensures.third_after_script text left never
+    (λ reads. no_snapshot (task c.in-Some.job, c.in-Some.ensures.found, reads))
+
+pub returns-in-Some-clause-script_after_snapshot : goal.returns-in-Some-clause-script_after_snapshot
+returns-in-Some-clause-script_after_snapshot g c = λ text a left gives never wants.
+    let words = map string_bytes c.args.words.now in
+    c.job_due.ensures.script_after_snapshot text a left gives never
+    (subst ReadsSnapshot (one_task words wants.0 (task c.in-Some.job) wants.1 c.in-Some.ensures.found) wants.2)
