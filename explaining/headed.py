@@ -23,14 +23,16 @@ def head_of(tokens, at):
     return None if head is None or tokens[head].text == "fn" else (head, closing(tokens, head + 3))
 
 
-def missing(names, at, program):
+def missing(names, at, program, is_asked=False):
     """Gives lines for a parameter of this name, which the head lacks and calls of the process give a value or a channel
-    for, where the contract is accepted with it."""
+    for, or which a transaction lacks where that is asked for too, where the contract is accepted with it."""
     tokens, place = names.tokens, head_of(names.tokens, at)
     used = names.used(at)
-    if place is None or used not in ("value", "channel") or not are_more(names, *place):
+    if place is None or used not in ("value", "channel"):
         return []
     head, end = place
+    if not are_more(names, head, end) and not (is_asked and tokens[head + 1].text == "T"):
+        return []
     sign = next(it for it in range(head, end) if tokens[it].text == ";")
     is_channel = used == "channel"
     last = end if is_channel else sign

@@ -2,9 +2,9 @@
 import contextlib
 
 from .amounts import closing
-from .headed import missing
+from .headed import goes_through, missing
 from .known import written
-from .mends import mend, says
+from .mends import Mend, mend, says
 from .renamed import fresh, renaming
 from .syntax import distance, nearest
 from .wordings import NOTHINGS
@@ -166,7 +166,7 @@ def others(names, at, other):
         yield (tokens[start].at, token.end, f"list {term}, {token.text}"), said
     if other == "function" and names.used(at) == "process" and words[2:3] == ["call"]:
         yield from called(names, at)
-    if other is None and names.used(at) == "channel":
+    if other in (None, "value") and names.used(at) == "channel":
         yield (token.at, token.end, "self"), f"write `self` in place of `{token.text}`"
     if other == "process" and names.used(at) == "function" and (words[0:1], words[2:3]) == (["let"], ["="]):
         end = closing(tokens, at + 1)
@@ -189,7 +189,8 @@ def given(names, at):
 
 
 def moved(names, at):
-    """Gives an edit where a channel stands among the values of a `call` or a `spawn`: it stands behind the `;`."""
+    """Gives an edit where a channel stands among the values of a `call` or a `spawn`: it stands behind the `;`, and a
+    value that stands there goes before it."""
     tokens = names.tokens
     opening = next((it for it in range(at - 1, 0, -1) if tokens[it].text in ("(", ";", "{", "=>")), 0)
     if tokens[opening].text != "(" or names.used(opening - 1) != "process":
@@ -199,8 +200,10 @@ def moved(names, at):
     parts = [it.strip() for it in sides[0].split(",") if it.strip()]
     known = {tokens[it].text for it in range(at) if names.declared(it) == "channel" and names.leads(it, at)}
     found = [it for it in parts if it == tokens[at].text or it in known]
-    values = [it for it in parts if it not in found]
     channels = [it.strip() for it in sides[-1].split(",") if it.strip()] if len(sides) == 2 else []
+    other = {tokens[it].text for it in range(at) if names.declared(it) == "value" and names.leads(it, at)}
+    values = [*(it for it in parts if it not in found), *(it for it in channels if it in other - known)]
+    channels = [it for it in channels if it not in values]
     if found and "(" not in sides[0]:
         new = f"({', '.join(values)}; {', '.join([*found, *channels])})"
         old = names.text.text[tokens[opening].at : tokens[end].end]
@@ -267,6 +270,51 @@ def another(names, at):
     return mend(words, (token.at, token.end, new), *edits)
 
 
+def ended_at(tokens, start):
+    """Gives the `;` behind the instruction that begins at a token, or nothing where none is behind it."""
+    depth = 0
+    for at in range(start, len(tokens)):
+        if tokens[at].text == ";" and depth == 0:
+            return at
+        depth += (tokens[at].text in ("(", "{")) - (tokens[at].text in (")", "}"))
+        if depth < 0:
+            return None
+    return None
+
+
+def doubled(names, at, program):
+    """Gives a line for an instruction that binds a name a second time, and stands there a second time as it is."""
+    tokens = names.tokens
+    start = next((place for place in range(at, 0, -1) if tokens[place - 1].text in (";", "{", "=>", "=")), 0)
+    end, before = ended_at(tokens, start), names.known_before(at)
+    if names.leaves[at].rule != "step" or end is None or before is None or before - at + start < 1:
+        return []
+    first = before - at + start
+    words = [[it.text for it in tokens[one : one + end - start + 1]] for one in (first, start)]
+    if words[0] != words[1]:
+        return []
+    edit = (tokens[start].at, tokens[end].end, "")
+    after = program.check(names.text.edited(edit))
+    is_past = (after.is_cause("Name") or after.is_cause("ProcType")) and after.offset > tokens[start].at
+    if after.is_accepted or after.is_cause("NoPotential") or is_past:
+        return [mend(f"take it out, since it stands at {names.text.place(tokens[first].at)} already", edit)]
+    return []
+
+
+def turned(names, at, program):
+    """Gives a line for a name that is sent and bound nowhere, where all is accepted once it is received instead; and for
+    one that is received and known already, where it is sent instead."""
+    word, behind = names.tokens[at - 2], names.tokens[at + 1 : at + 2]
+    ways = {("put", "value"): "take", ("send", "channel"): "recv", ("take", None): "put", ("recv", None): "send"}
+    new = ways.get((word.text, names.used(at)))
+    if new is None or not behind or behind[0].text != ";":
+        return []
+    edit = (word.at, word.end, new)
+    if not goes_through(program.check(names.text.edited(edit))):
+        return []
+    return [mend(f"write `{new}` in place of `{word.text}` at {names.text.place(word.at)}", edit)]
+
+
 def bound_later(names, at, program):
     """Gives a line for the instruction behind this one that binds the name, on the same way: it stands before it."""
     tokens, name, wanted = names.tokens, names.tokens[at].text, names.used(at)
@@ -275,8 +323,8 @@ def bound_later(names, at, program):
     start = next((place for place in range(at, 0, -1) if tokens[place - 1].text in (";", "{", "=>", "=")), 0)
     if not later or wanted not in ("value", "channel"):
         return []
-    first = next(place for place in range(later[0], at, -1) if tokens[place - 1].text == ";")
-    end = next((place for place in range(later[0], len(tokens)) if tokens[place].text == ";"), None)
+    first = next((place for place in range(later[0], at, -1) if tokens[place - 1].text == ";"), None)
+    end = None if first is None else ended_at(tokens, first)
     if end is None:
         return []
     code = joined(tokens[first:end])
@@ -379,6 +427,19 @@ def bound_here(names, at, program, is_sure=False):
     if len(does) == 1 or 0 < len(sure) < 4:
         return sure or [does[0][1]]
     return acquired(names, at, program)
+
+
+def one_bound(names, at, program):
+    """Gives a line for a channel that is bound on the way here, or `self`, in place of this name here alone, where all
+    is accepted with one of them and with no other one."""
+    token = names.tokens[at]
+    if names.used(at) != "channel":
+        return []
+    known = [it.text for place, it in enumerate(names.tokens[:at])
+             if names.declared(place) == "channel" and names.leads(place, at)]
+    edits = [(token.at, token.end, it) for it in ["self", *dict.fromkeys(known[::-1])][:MOST_BOUND]]
+    found = [it for it in edits if goes_through(program.check(names.text.edited(it)))]
+    return [mend(f"write `{found[0][2]}` in place of `{token.text}`", found[0])] if len(found) == 1 else []
 
 
 def payer(text, at, program, grammar):
@@ -532,14 +593,16 @@ def made(names, at, program, grammar):
     """Gives lines for a process that is started before something is sent which is no channel yet, and is of the type
     that is wanted there: with the value that stands there, or with values that the writer knows."""
     tokens, token = names.tokens, names.tokens[at]
-    if tokens[at - 2].text != "send" or names.used(at) != "channel":
+    if names.used(at) != "channel":
         return []
     types, step, held = stand(names, at, grammar)
-    via = tokens[at - 1].text
-    whole = types.unfolded(held[via].type) if step is not None and via in held else None
-    if whole is None or whole.sign != ("*" if via == "self" else "-o"):
+    via, wanted = tokens[at - 1].text, handed(names, at, types, step)
+    whole = types.unfolded(held[via].type) if step is not None and tokens[at - 2].text == "send" and via in held else None
+    if whole is not None and whole.sign == ("*" if via == "self" else "-o"):
+        wanted = types.said(*whole.parts[0][:2])
+    if wanted is None:
         return []
-    wanted, lines, start = types.said(*whole.parts[0][:2]), [], tokens[step.at].at
+    lines, start, where = [], tokens[step.at].at, " ".join(it.text for it in tokens[step.at : step.at + 2])
     for it in types.processes.values():
         kinds = [one.type for one in it.parameters]
         if it.offers != wanted or it.mode != "R" or it.of_kind("channel"):
@@ -555,9 +618,23 @@ def made(names, at, program, grammar):
         is_past = after.is_cause("ProcType") or after.is_cause("Name")
         if after.is_accepted or after.is_cause("NoPotential") or is_past and after.offset > token.at + len(code):
             instead = f", and `{name}` in place of `{token.text}`" if is_value else ""
-            words = f"write `spawn {name} = {it.name}({said};);` before `send {via}`{instead}"
+            words = f"write `spawn {name} = {it.name}({said};);` before `{where}`{instead}"
             lines.append(mend(words, *edits))
     return lines[:3]
+
+
+def handed(names, at, types, step):
+    """Gives the type of the parameter that a name is given for in a `call` or a `spawn`, where it is found."""
+    tokens = names.tokens
+    if step is None or step.form not in ("call", "spawn"):
+        return None
+    process = types.processes.get(tokens[step.at + (1 if step.form == "call" else 3)].text)
+    signs = [place for place in range(step.at, at) if tokens[place].text == ";"]
+    if process is None or not signs:
+        return None
+    count = sum(tokens[place].text == "," for place in range(signs[-1], at))
+    channels = process.of_kind("channel")
+    return channels[count].type if count < len(channels) else None
 
 
 def stand(names, at, grammar):
@@ -637,11 +714,23 @@ def explained(text, answer, program, grammar):
     if is_new:
         before = names.known_before(at)
         see = [] if before is None else [f"see: `{token.text}` is known since {text.place(text.tokens[before].at)}"]
-        return "Name twice", [another(names, at), *see]
-    wanted, other = names.used(at), names.known_otherwise(at)
+        other = doubled(names, at, program) or turned(names, at, program)
+        return "Name twice", [*other, another(names, at), *see]
+    row, lines = of_unbound(names, at, program, grammar, moves_on)
+    if not any(isinstance(it, Mend) for it in lines):
+        lines = [*missing(names, at, program, is_asked=True), *lines]
+    return row, lines
+
+
+def of_unbound(names, at, program, grammar, moves_on):
+    """Gives the row and the lines for a name that is not bound, or as something else than is wanted."""
+    token, wanted, other = names.tokens[at], names.used(at), names.known_otherwise(at)
     if wanted is None:
         return "Name", []
-    lacking = missing(names, at, program)
+    near = next((it for it in names.near(at) if moves_on(it)), None)
+    is_asked = near is None and names.tokens[at - 1].text == "acquire"
+    lacking = missing(names, at, program, is_asked) or turned(names, at, program)
+    lacking = lacking or ([] if near else one_bound(names, at, program))
     if lacking:
         return ("Name scope" if other else "Name unknown"), lacking
     early = bound_before(names, at, other, program, grammar, moves_on)
@@ -653,7 +742,6 @@ def explained(text, answer, program, grammar):
     if other:
         return otherwise(names, at, other, program, grammar)
     does = valued(names, at, program)
-    near = next((it for it in names.near(at) if moves_on(it)), None)
     if near and not (does and distance(near, token.text) > 1):
         return "Name near", [mend(says("near", name=near), (token.at, token.end, near))]
     return unknown(names, at, does, program, grammar)
@@ -677,13 +765,14 @@ def otherwise(names, at, other, program, grammar):
     text, token, wanted = names.text, names.tokens[at], names.used(at)
     place, kind = text.place(text.tokens[other[0]].at), other[1]
     if kind == wanted:
-        found = [*bound_here(names, at, program), *valued(names, at, program)]
+        found = one_bound(names, at, program)
+        found = found or [*bound_here(names, at, program), *valued(names, at, program)]
         found = found or made(names, at, program, grammar)
         return "Name scope", [*found, f"see: `{token.text}` is bound at {place}"]
     see = f"see: `{token.text}` is {said(kind)}, by {place}, and {said(wanted)} is wanted here"
     found = declared_ones(names, at, wanted, program) if wanted == "function" else []
     found = found or (applied(names, at, program) if wanted == "function" else [])
-    found = found or compared(names, at)
+    found = found or compared(names, at) or one_bound(names, at, program)
     mends = found or worth(names, at, program, grammar) or made(names, at, program, grammar)
     mends = mends or bound_here(names, at, program)
     mends = mends or valued(names, at, program)

@@ -4,6 +4,8 @@ from typing import NamedTuple
 
 from . import headed
 from .amounts import closing
+from .answering import Answers
+from .headed import goes_through
 from .held import PROVIDED, now, reached
 from .kinds import miscounted, other_parts
 from .losing import Keeping, further, values_of, warned
@@ -13,7 +15,8 @@ from .passing import passed
 from .renamed import fresh
 from .retyped import retyped
 from .shapes import LASTS
-from .swapped import acquired_later, acquired_of, ended_otherwise, made_here, other_channel, other_spawned, put_instead
+from .swapped import acquired_later, acquired_of, ended_otherwise, label_before, made_here, other_called
+from .swapped import other_channel, other_sent, other_spawned, put_instead
 from .syntax import distance
 from .texts import LONGEST, joined
 
@@ -21,6 +24,9 @@ from .texts import LONGEST, joined
 # tried.
 ASKED, DEEP = DATA["asked"], DATA["deep"]
 MOST_BEHIND, MOST_BRANCHES = 4, 4
+# How many kinds and values are tried in the place of others, and what the other kind is.
+MOST_KINDS, MOST_VALUES = 24, 6
+OTHER_KIND = {"int": "bool", "bool": "int"}
 # The modes that a process of each mode may spawn.
 SPAWNED = {"R": "R", "S": "RS", "L": "RS", "T": "RS"}
 # The leaves as which a channel is passed on or ended: by send, wait and release, and as an argument.
@@ -67,6 +73,7 @@ class Stuck:
         self.new = unused(text)
         heads = [at for at in range(self.index) if self.tokens[at].text in ("proc", "fn", "type")]
         self.head = heads[-1]
+        self.values = list(dict.fromkeys(values_of(names, self.head, self.index)))
 
     def reach(self, it):
         """Gives the offset up to which the program is content with the instructions of the text with an edit, or one
@@ -109,7 +116,8 @@ class Stuck:
             if (row["at"], row["sent"]) == (whole.sign, is_sent):
                 for known, behind in self.fillings(row["write"], name, whole):
                     known = {"channel": name, "new": new, **known}
-                    open_ones = dict.fromkeys({"new", "value"} & known.keys(), DATA["left_open"])
+                    is_bound = known.get("value") in self.values
+                    open_ones = dict.fromkeys({"new", *([] if is_bound else ["value"])} & known.keys(), DATA["left_open"])
                     said = filled(row["write"], **{**known, **open_ones})
                     yield filled(row["write"], **known), said, behind if "goes_on" in row else None
 
@@ -124,8 +132,22 @@ class Stuck:
         if "$amount" in write:
             return [({"amount": self.reached[0].amount(whole)}, behind)]
         if "$value" in write:
-            return [({"value": it}, behind) for it in DATA["values"].get(self.tokens[whole.at].text, ())]
+            known = self.one_value(write, name)
+            return [({"value": it}, behind) for it in known or DATA["values"].get(self.tokens[whole.at].text, ())]
         return [({}, behind)]
+
+    def one_value(self, write, name):
+        """Gives the value that is bound on the way here and fits, where one alone does, or one alone that is used
+        nowhere."""
+        fits = []
+        for it in self.values[-MOST_VALUES:]:
+            new = f"{filled(write, channel=name, value=it)} "
+            if (self.reach(Try((self.at, self.at, new), "")) or 0) >= self.at:
+                fits.append(it)
+        used = {self.tokens[at].text for at in range(self.head, len(self.tokens)) if self.names.used(at) == "value"
+                and (at < self.index or self.names.leads(self.index, at))}
+        unused = [it for it in fits if it not in used]
+        return fits if len(fits) == 1 else unused if len(unused) == 1 else []
 
     def instructions(self):
         """Goes through rows of instructions on one channel put before the stuck one, short ones first, and gives those
@@ -162,6 +184,11 @@ class Stuck:
         token = self.tokens[start.at]
         words = f"write `{words}` before `{token.text}` at {self.text.place(token.at)}"
         return Try((token.at, token.at, f"{code} "), words) if start.at != step.at else None
+
+    def way(self):
+        """Gives the instructions up to the stuck one, each with what is held there."""
+        types, step, held = self.reached
+        return list(Keeping(types, step, held, []).way(self.process()))
 
     def process(self):
         """Gives the process that the stuck instruction stands in."""
@@ -221,9 +248,13 @@ class Stuck:
             yield from self.heard_first()
         if self.form == "wait":
             yield from self.waited_early()
+        if self.form in TALKING:
+            yield from (Try(edit, words) for edit, words in label_before(self))
         if self.form == "call":
             yield from self.accepted_early()
+            yield from (Try(edit, words) for edit, words in other_called(self))
         if self.form == "send":
+            yield from (Try(edit, words) for edit, words in other_sent(self))
             via, sent = self.tokens[self.index + 1 : self.index + 3]
             it = f"{sent.text} {via.text}"
             yield Try((via.at, sent.end, it), f"write `send {it}` in place of `send {via.text} {sent.text}`")
@@ -443,13 +474,18 @@ class Stuck:
         whole = types.unfolded(held[name].type) if name in held else None
         if whole is None or whole.sign != ("&" if name == "self" else "+"):
             return
-        codes = [(label, self.talked(name, it, DEEP)) for label, it in whole.parts if label not in has]
+        codes, ways = [(label, self.talked(name, it, DEEP)) for label, it in whole.parts if label not in has], None
+        if not all(code for _, code in codes):
+            ways = Answers(types, held, self.new, self.process(), self.values)
+            last = self.call_again() if self.tokens[self.head + 1].text in ("S", "L") else "close"
+            codes = [(label, ways.code(name, it, last)) for label, it in whole.parts if label not in has]
         if codes and all(code for _, code in codes):
             rows = [f"{label} => {code}" for label, code in codes]
             what = "a branch" if len(rows) == 1 else "branches"
             words = f"write {what} {' and '.join(f'`{it}`' for it in rows)} too"
             is_lost = any(f" wait {name};" in it and f"{name}." in it for it in rows)
             words += says("lost", channel=name) if is_lost else ""
+            words += "".join(says("lost", channel=it) for it in ways.lost) if ways else ""
             yield Try((close, close, "".join(f" | {it}" for it in rows)), words)
 
     def talked(self, name, it, deep):
@@ -499,15 +535,17 @@ class Stuck:
         words = "take it out"
         held = self.reached[2]
         at = {"send": 2, "release": 1}.get(self.form, 0)
-        word = self.tokens[self.index + at].text
-        via = self.tokens[self.index + 1].text
+        word, via = self.tokens[self.index + at].text, self.tokens[self.index + 1].text
         is_spent = at and (word not in held or via not in held)
         is_spent = is_spent or self.form == "release" and self.reached[0].is_shared(held[via].type)
+        is_spent = is_spent or self.form == "send" and self.is_passed_later(word)
         for _ in range(DEEP):
             if self.form not in TAKEN_OUT and not is_spent or end is None:
                 return
             it = Try((self.at, end + 1, ""), words)
             reached, behind = self.reach(it), self.text.index_at(end) + 1
+            if behind == len(self.tokens):
+                return
             if reached is not None and reached > self.tokens[behind].at:
                 yield reached, it
                 return
@@ -516,6 +554,12 @@ class Stuck:
             end = self.end(behind)
             said = joined(self.tokens[self.index : self.text.index_at(end)])
             words = f"take `{said}` out"
+
+    def is_passed_later(self, name):
+        """Whether a channel is passed on behind the stuck instruction, on the same way."""
+        rest = range(self.text.index_at(self.end() or self.at), len(self.tokens))
+        return any(self.tokens[at].text == name and self.is_ending(at) and self.names.leads(self.index, at)
+                   for at in rest)
 
     def channel_at(self, index):
         """Gives the name that the instruction at a token is on, as far as it is on one."""
@@ -724,7 +768,26 @@ class Stuck:
         def is_whole(edit):
             return (self.reach(Try(edit, "")) or 0) > self.text.size
 
-        return other_parts(self.names, self.index, self.behind(), goes_on, is_whole) if self.form in TERMS else []
+        if self.form not in TERMS:
+            return []
+        found = other_parts(self.names, self.index, self.behind(), goes_on, is_whole)
+        are_open = not any(it.edits for it in found if isinstance(it, Mend))
+        has_name = any(self.names.used(at) == "value" for at in range(self.index, self.behind()))
+        return [*(self.kinds_elsewhere() if are_open and has_name else []), *found]
+
+    def kinds_elsewhere(self):
+        """Gives lines on another kind of values in a type or in a head, where the contract is accepted with it."""
+        kinds = [at for at, it in enumerate(self.tokens) if it.text in OTHER_KIND and self.names.leaves[at].rule == "vtype"
+                 and self.tokens[at - 1].text not in ("nil", "list")]
+        kinds.sort(key=lambda at: abs(at - self.index))
+        lines = []
+        for token in (self.tokens[at] for at in kinds[:MOST_KINDS]):
+            edit = (token.at, token.end, OTHER_KIND[token.text])
+            after = self.program.check(self.text.edited(edit))
+            if goes_through(after):
+                place = self.text.place(token.at)
+                lines.append(mend(f"write `{edit[2]}` in place of `{token.text}` at {place}", edit))
+        return lines[:2]
 
     def declaration(self):
         """Gives the place and the head of the process that a spawn or a call names."""

@@ -1,10 +1,12 @@
 """What may stand in the place of something near a stuck instruction: another channel, another process that is spawned,
 or what a value is sent by."""
+from .passing import separated
 from .texts import joined
 
 MOST_TRIED, MOST_BEHIND = 6, 3
-# The sign of a type at which the client has an instruction.
-CLIENT = {"take": "/\\", "recv": "*", "put": "->", "send": "-o", "get": "|", "pay": "<", "case": "+"}
+# The sign of a type at which the client has an instruction, and that at which the provider has it.
+CLIENT = {"take": "/\\", "recv": "*", "put": "->", "send": "-o", "get": "|", "pay": "<", "case": "+", "label": "&"}
+OWN = {"take": "->", "recv": "-o", "put": "/\\", "send": "*", "get": "<", "pay": "|", "case": "&", "label": "+"}
 
 
 def held_names(stuck):
@@ -19,17 +21,34 @@ def other_channel(stuck):
     at = stuck.index if stuck.form == "label" else stuck.index + 1
     it = stuck.tokens[at]
     names = [name for name in held_names(stuck) if name != it.text and (it.text != "self" or goes_on(stuck, name))]
+    names = [*(["self"] if it.text != "self" and "self" in held and goes_on(stuck, "self") else []), *names]
     for name in names[:MOST_TRIED]:
         yield (it.at, it.end, name), f"write `{name}` in place of `{it.text}`"
 
 
 def goes_on(stuck, name):
-    """Whether the talk on a channel that the process is the client of goes on by an instruction like the stuck one."""
+    """Whether the talk on a channel goes on by an instruction like the stuck one."""
     types, _, held = stuck.reached
     whole = types.unfolded(held[name].type)
-    if stuck.form == "label":
-        return whole.sign == "&" and stuck.tokens[stuck.index + 2].text in dict(whole.parts)
-    return whole.sign == CLIENT.get(stuck.form)
+    is_such = whole.sign == (OWN if name == "self" else CLIENT).get(stuck.form)
+    return is_such and (stuck.form != "label" or stuck.tokens[stuck.index + 2].text in dict(whole.parts))
+
+
+def other_sent(stuck):
+    """Gives edits for another asset that is held and of the type that is wanted, in place of the one that is sent; or
+    for such a one that goes over what is sent here over `self`."""
+    types, _, held = stuck.reached
+    via, sent = stuck.tokens[stuck.index + 1 : stuck.index + 3]
+    for channel, start in ((via, sent), (sent, via)):
+        whole = types.unfolded(held[channel.text].type) if channel.text in held else None
+        if whole is None or whole.sign != ("*" if channel.text == "self" else "-o"):
+            continue
+        wanted = types.said(*whole.parts[0][:2])
+        for name in held_names(stuck):
+            if name not in (via.text, sent.text) and types.said(*held[name].type[:2]) == wanted:
+                new = name if channel is via else f"{sent.text} {name}"
+                old = types.text.text[start.at : sent.end]
+                yield (start.at, sent.end, new), f"write `{new}` in place of `{old}`"
 
 
 def acquired_of(stuck):
@@ -89,6 +108,35 @@ def other_spawned(stuck):
             token = types.tokens[bound + 2]
             words = f"write `{it.name}` in place of `{old.name}` at {types.text.place(token.at)}"
             yield (token.at, token.end, it.name), words
+
+
+def other_called(stuck):
+    """Gives edits for another process of the same mode in a `call`, which takes as much as stands there."""
+    types = stuck.reached[0]
+    token, own = stuck.tokens[stuck.index + 1], stuck.process()
+    start, end = stuck.index + 3, stuck.behind() - 1
+    sign = next((at for at in range(start, end) if stuck.tokens[at].text == ";"), end)
+    counts = [len(list(separated(stuck.tokens, *side))) for side in ((start, sign), (sign + 1, end)) if side[0] <= side[1]]
+    for it in types.processes.values():
+        channels = len(it.of_kind("channel"))
+        if it.mode == own.mode and it.name != token.text and [len(it.parameters) - channels, channels] == counts:
+            yield (token.at, token.end, it.name), f"write `{it.name}` in place of `{token.text}`"
+
+
+def label_before(stuck):
+    """Gives edits for another label, of the same choice, that was sent just before on the channel of the instruction."""
+    types, step, held = stuck.reached
+    at = stuck.index if stuck.form == "label" else stuck.index + 1
+    name = stuck.tokens[at].text
+    words = [it.text for it in stuck.tokens[stuck.index - 4 : stuck.index]]
+    if words[:2] + words[3:] != [name, ".", ";"] or name not in held:
+        return
+    token, rows = stuck.tokens[stuck.index - 2], stuck.way()
+    at = next((known for before, known in rows if before.at == stuck.index - 4), {}).get(name)
+    whole = types.unfolded(at.type) if at else None
+    for label, _ in whole.parts if whole and whole.sign in ("+", "&") else ():
+        if label != token.text:
+            yield (token.at, token.end, label), f"write `{label}` in place of `{token.text}` at {types.text.place(token.at)}"
 
 
 def made_here(stuck, new):

@@ -3,6 +3,7 @@ import re
 
 from .comparisons import chained, written
 from .habits import Habits
+from .lasts import ended
 from .mends import mend, says
 from .renamed import fresh, places, uses
 from .shapes import HEADS, KINDS, Slip
@@ -384,7 +385,8 @@ def explained(text, answer, program, grammar):
         row = next((name for name, wanted in SURE if slips.wanted and wanted(slips.wanted)), row)
     if slip:
         row = slip.row
-        lines += [mend(" ".join(slip.mend.split()), slip.edit, *slip.more)] if slip.mend else []
+        last = ended(text, slip, program) if row == "Syntax branch" and not slip.more else []
+        lines += last or ([mend(" ".join(slip.mend.split()), slip.edit, *slip.more)] if slip.mend else [])
         lines += slip.see
     words = grammar.said(slips.wanted)
     if words:
