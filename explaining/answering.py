@@ -12,12 +12,15 @@ class Answers:
     process may choose a label, it is the one that leads to the shortest code, and the last one of several."""
 
     def __init__(self, types, held, new, process, values):
-        self.types, self.new, self.process, self.values, self.lost = types, new, process, values, []
+        self.types, self.held, self.process, self.values = types, held, process, values
+        self.new, self.lost = new, []
         self.own = {name: it.type for name, it in held.items() if name != "self" and not types.is_shared(it.type)}
 
-    def code(self, name, it, last):
-        """Gives the code on a channel at a type, with the instruction that the process ends with, or nothing."""
-        self.name, self.last = name, last
+    def code(self, name, it, last, again):
+        """Gives the code on a channel at a type, with the instruction that the process ends with, or with the call by
+        which it goes on as itself, or nothing."""
+        self.name, self.last, self.again = name, last, again
+        self.left = {other: has for other, has in self.own.items() if other != name}
         rows = self.rows(it, {}, MOST)
         return None if rows is None else " ".join(rows)
 
@@ -30,10 +33,12 @@ class Answers:
         is_sent = (whole.sign in PROVIDED) == (name == "self")
         if left == 0:
             return None
+        if name == "self" and self.process.mode == "R" and self.said(it) == self.process.offers:
+            return [self.again] if not assets and self.left.keys() == self.own.keys() else None
         if whole.sign in ("down", "1"):
             ends = {("down", True): ["detach;"], ("down", False): [f"release {name} as {self.new}r;"],
                     ("1", True): [], ("1", False): [f"wait {name};"]}
-            behind = self.behind(assets)
+            behind = self.answer(assets, left) if name != "self" else self.behind(assets)
             return None if behind is None else [*ends[whole.sign, name == "self"], *behind]
         if whole.sign in ("+", "&"):
             found = [(label, self.rows(part, assets, left - 1)) for label, part in whole.parts] if is_sent else []
@@ -42,6 +47,14 @@ class Answers:
         row, assets = self.row(whole, is_sent, assets, self.new + "x" * (MOST - left))
         further = self.rows(whole.parts[-1], assets, left - 1) if row else None
         return None if further is None else [row, *further]
+
+    def answer(self, assets, left):
+        """Gives what stands behind the talk on a channel: that of `self`, where it is under way."""
+        own = self.held.get("self")
+        if self.process.mode == "T" or own is None or self.types.is_shared(own.type):
+            return self.behind(assets)
+        self.name = "self"
+        return self.rows(own.type, assets, left - 1)
 
     def row(self, whole, is_sent, assets, new):
         """Gives the instruction at a type by which one thing goes over the channel, received under a new name, and the
@@ -64,7 +77,8 @@ class Answers:
 
     def behind(self, assets):
         """Gives what stands behind the talk: where assets are left, a call that takes them, or what ends them."""
-        if not assets:
+        is_same = not assets and self.left.keys() == self.own.keys()
+        if is_same or not assets and self.process.mode in ("R", "T"):
             return [self.last]
         call = self.call(assets) if self.process.mode in ("S", "L") else None
         if call:
@@ -77,7 +91,7 @@ class Answers:
 
     def call(self, assets):
         """Gives a call of another process of the same mode that takes these assets, and what is held beside."""
-        left = {**assets, **{name: it for name, it in self.own.items() if name != self.name}}
+        left = {**assets, **self.left}
         for it in self.types.processes.values():
             kinds, given, rest = it.of_kind("value"), [], dict(left)
             channels = it.of_kind("channel")

@@ -29,6 +29,11 @@ def completed(it):
     if len(values) > len(it.wanted_values) or len(names) > len(it.wanted_names) or not missing and not lacking:
         return []
     known = known_here(it, "value")
+    fresh = computed_last(it, values, known) if len(missing) == 1 and not lacking else None
+    if fresh:
+        edit, said = written(it, [*values, fresh], names)
+        if it.goes_past(it.types.text.edited(edit)):
+            return [mend(f"write `{said}`", edit)]
     place = left_out(it, values, known) if len(missing) == 1 and not lacking else None
     place = by_names(it, values, known) if place is None and len(missing) == 1 and not lacking else place
     if place is not None:
@@ -50,6 +55,17 @@ def completed(it):
         if it.goes_past(it.types.text.edited(edit)):
             return [mend(f"write `{said}`{f', with {kinds}' if kinds else ''}", edit)]
     return []
+
+
+def computed_last(it, values, known):
+    """Gives the one value that was computed or came in this branch and stands nowhere so far, if there is one, where
+    the last value is left out."""
+    types, head = it.types, it.types.tokens.index(it.name)
+    used = {types.tokens[at].text for at in range(head) if types.used(at) == "value" and types.leads(at, head)}
+    bound = [types.tokens[at].text for at in range(head) if types.key(at) in (("step", 3), ("step", 11))
+             and types.leads(at, head)]
+    found = [name for name in bound if name in known and name not in used and name not in values]
+    return found[0] if len(found) == 1 else None
 
 
 def left_out(it, values, known):

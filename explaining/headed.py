@@ -39,14 +39,48 @@ def missing(names, at, program, is_asked=False):
     is_first = tokens[last - 1].text in (";", "(")
     parting = (" " if is_channel else "") if is_first else ", "
     kinds = types_of(names, "RS" if tokens[head + 1].text != "R" else "R") if is_channel else KINDS
+    behind = following(names, head, end, tokens[at].text, is_channel)
     found = []
     for kind in kinds[:MOST_TRIED]:
         new = f"{tokens[at].text}: {kind}"
         edit = (tokens[last - 1].end, tokens[last - 1].end, f"{parting}{new}")
+        if behind is not None:
+            edit = (behind.at, behind.at, f"{new}, ")
         if goes_through(program.check(names.text.edited(edit))):
             place = names.text.place(tokens[head + 2].at)
-            found.append(mend(f"write `{new}` among the parameters of `{tokens[head + 2].text}` at {place}", edit))
+            where = "among the parameters of" if behind is None else f"before `{behind.text}`, among the parameters of"
+            found.append(mend(f"write `{new}` {where} `{tokens[head + 2].text}` at {place}", edit))
     return found[:3]
+
+
+def following(names, head, end, name, is_channel):
+    """Gives the parameter that a missing one of a name stands before, by a call of the process that gives this name in
+    that place; nothing where it is the last one, or that is not told."""
+    tokens, process = names.tokens, names.tokens[head + 2].text
+    for at in range(len(tokens) - 1):
+        if tokens[at].text != process or tokens[at + 1].text != "(" or names.used(at) != "process":
+            continue
+        given = sides(tokens, at + 1, closing(tokens, at + 1))[is_channel]
+        known = sides(tokens, head + 3, end)[is_channel]
+        if [name] in [[it.text for it in row] for row in given] and len(given) == len(known) + 1:
+            place = [[it.text for it in row] for row in given].index([name])
+            return known[place][0] if place < len(known) else None
+    return None
+
+
+def sides(tokens, opening, end):
+    """Gives the tokens of each value, and of each channel, between two parentheses."""
+    found, depth = [[[]], [[]]], 0
+    side = 0
+    for it in tokens[opening + 1 : end]:
+        depth += (it.text in ("(", "{")) - (it.text in (")", "}"))
+        if depth == 0 and it.text == ";":
+            side = 1
+        elif depth == 0 and it.text == ",":
+            found[side].append([])
+        else:
+            found[side][-1].append(it)
+    return [[row for row in one if row] for one in found]
 
 
 def are_more(names, head, end):

@@ -315,6 +315,23 @@ def turned(names, at, program):
     return [mend(f"write `{new}` in place of `{word.text}` at {names.text.place(word.at)}", edit)]
 
 
+def computed(names, at, program):
+    """Gives a line for a value that is bound nowhere, by a `let` before the instruction: what it is the writer knows."""
+    tokens, token = names.tokens, names.tokens[at]
+    start = next((place for place in range(at, 0, -1) if tokens[place - 1].text in (";", "=>", "=", "{", "else")), 0)
+    if names.used(at) != "value" or names.leaves[start].rule not in ("step", "last", "chan"):
+        return []
+    for value in ("0", "true", "nil int"):
+        new = f"let {token.text} = {value}; "
+        edit = (tokens[start].at, tokens[start].at, new)
+        after = program.check(names.text.edited(edit))
+        is_past = (after.is_cause("Name") or after.is_cause("ProcType")) and after.offset > token.end + len(new)
+        if goes_through(after) or is_past:
+            words = f"write `let {token.text} = ..;` before `{joined(tokens[start : start + 2])}`"
+            return [mend(f"{words} at {names.text.place(tokens[start].at)}", edit)]
+    return []
+
+
 def bound_later(names, at, program):
     """Gives a line for the instruction behind this one that binds the name, on the same way: it stands before it."""
     tokens, name, wanted = names.tokens, names.tokens[at].text, names.used(at)
@@ -429,6 +446,25 @@ def bound_here(names, at, program, is_sure=False):
     return acquired(names, at, program)
 
 
+def nearly_bound(names, at, program):
+    """Gives a line for a name that is bound on the way here as what is wanted, and is spelt nearly so, here and where
+    this one stands behind that."""
+    text, token, wanted = names.text, names.tokens[at], names.used(at)
+    known = {it.text for place, it in enumerate(names.tokens[:at]) if names.declared(place) == wanted
+             and names.leads(place, at)}
+    for name in nearest(token.text, known):
+        if distance(name.lower(), token.text.lower()) > 1:
+            continue
+        more, where = renaming(text, at, name)
+        edits = (token.at, token.end, name), *more
+        after = program.check(text.edited(*edits))
+        is_past = (after.is_cause("Name") or after.is_cause("ProcType")) and after.offset > token.at + len(name)
+        if goes_through(after) or is_past:
+            words = f"write `{name}` in place of `{token.text}`{f', here and at {where}' if more else ''}"
+            return [mend(words, *edits)]
+    return []
+
+
 def one_bound(names, at, program):
     """Gives a line for a channel that is bound on the way here, or `self`, in place of this name here alone, where all
     is accepted with one of them and with no other one."""
@@ -437,7 +473,11 @@ def one_bound(names, at, program):
         return []
     known = [it.text for place, it in enumerate(names.tokens[:at])
              if names.declared(place) == "channel" and names.leads(place, at)]
-    edits = [(token.at, token.end, it) for it in ["self", *dict.fromkeys(known[::-1])][:MOST_BOUND]]
+    taken = {names.tokens[place].text for place, it in enumerate(names.tokens[:-1]) if place != at
+             and names.tokens[place - 1].text == "acquire" and (names.leads(place, at) or names.leads(at, place))}
+    taken = taken if names.tokens[at - 1].text == "acquire" else set()
+    known = [it for it in ["self", *dict.fromkeys(known[::-1])] if it not in taken]
+    edits = [(token.at, token.end, it) for it in known[:MOST_BOUND]]
     found = [it for it in edits if goes_through(program.check(names.text.edited(it)))]
     return [mend(f"write `{found[0][2]}` in place of `{token.text}`", found[0])] if len(found) == 1 else []
 
@@ -502,22 +542,23 @@ def coming(names, at, program, grammar):
     signs = {"value": ("->", "/\\", "take"), "channel": ("-o", "*", "recv")}.get(names.used(at))
     types, steps = way(names, at, grammar) if signs else (None, [])
     asked = 0
-    for step, held in steps[::-1]:
+    ways = [(step, via, new) for step, held in steps[::-1]
+            for via, new in received(types, held, names.tokens[at].text, signs)]
+    for step, via, new in sorted(ways, key=lambda it: "." in it[2]):
         start = names.tokens[step.at].at
-        for via, new in received(types, held, names.tokens[at].text, signs):
-            asked += 1
-            if asked > MOST_TRIED:
-                return []
-            edit = (start, start, f"{new} ")
-            after = program.check(names.text.edited(edit))
-            use = names.tokens[at].at + len(edit[2])
-            is_past = after.is_cause("Name") and after.offset > use
-            is_here = after.is_cause("ProcType") and start <= after.offset <= use
-            is_past = is_past or after.is_cause("ProcType") and not is_here
-            is_past = is_past or is_here and not is_on(names.text.edited(edit), after.offset, via)
-            if after.is_accepted or after.is_cause("NoPotential") or is_past:
-                said = f"`{names.tokens[step.at].text}` at {names.text.place(start)}"
-                return [mend(f"write `{new}` before {said}", edit)]
+        asked += 1
+        if asked > MOST_TRIED:
+            return []
+        edit = (start, start, f"{new} ")
+        after = program.check(names.text.edited(edit))
+        use = names.tokens[at].at + len(edit[2])
+        is_past = after.is_cause("Name") and after.offset > use
+        is_here = after.is_cause("ProcType") and start <= after.offset <= use
+        is_past = is_past or after.is_cause("ProcType") and not is_here
+        is_past = is_past or is_here and not is_on(names.text.edited(edit), after.offset, via)
+        if after.is_accepted or after.is_cause("NoPotential") or is_past:
+            said = f"`{names.tokens[step.at].text}` at {names.text.place(start)}"
+            return [mend(f"write `{new}` before {said}", edit)]
     return []
 
 
@@ -718,7 +759,7 @@ def explained(text, answer, program, grammar):
         return "Name twice", [*other, another(names, at), *see]
     row, lines = of_unbound(names, at, program, grammar, moves_on)
     if not any(isinstance(it, Mend) for it in lines):
-        lines = [*missing(names, at, program, is_asked=True), *lines]
+        lines = [*(missing(names, at, program, is_asked=True) or computed(names, at, program)), *lines]
     return row, lines
 
 
@@ -728,12 +769,18 @@ def of_unbound(names, at, program, grammar, moves_on):
     if wanted is None:
         return "Name", []
     near = next((it for it in names.near(at) if moves_on(it)), None)
-    is_asked = near is None and names.tokens[at - 1].text == "acquire"
-    lacking = missing(names, at, program, is_asked) or turned(names, at, program)
-    lacking = lacking or ([] if near else one_bound(names, at, program))
+    lacking = missing(names, at, program) or turned(names, at, program)
+    if not lacking and near is None and (other is None or other[1] == wanted):
+        lacking = one_bound(names, at, program)
+        is_asked = names.tokens[at - 1].text == "acquire" and not bound_here(names, at, program, is_sure=True)
+        lacking = lacking or (missing(names, at, program, is_asked=True) if is_asked else [])
     if lacking:
-        return ("Name scope" if other else "Name unknown"), lacking
-    early = bound_before(names, at, other, program, grammar, moves_on)
+        see = [f"see: `{token.text}` is bound at {names.text.place(names.tokens[other[0]].at)}"] \
+            if other and other[1] == wanted else []
+        return ("Name scope" if other else "Name unknown"), [*lacking, *see]
+    early = [] if is_near_here(names, at) else bound_before(names, at, other, program, grammar, moves_on)
+    if early and early[0].count("`") > 1 and "." in early[0].split("`")[1]:
+        early = [*missing(names, at, program, is_asked=True), *early]
     if early and not (other and other[1] not in (wanted, None) and names.leads(other[0], at)):
         return "Name scope", early
     mends = mended(names, at, other and other[1], program)
@@ -745,6 +792,14 @@ def of_unbound(names, at, program, grammar, moves_on):
     if near and not (does and distance(near, token.text) > 1):
         return "Name near", [mend(says("near", name=near), (token.at, token.end, near))]
     return unknown(names, at, does, program, grammar)
+
+
+def is_near_here(names, at):
+    """Whether a name that is bound on the way here as what is wanted differs from this one in a letter, or in case."""
+    token, wanted = names.tokens[at], names.used(at)
+    return any(names.declared(place) == wanted and names.leads(place, at)
+               and distance(it.text.lower(), token.text.lower()) <= 1 and max(len(it.text), len(token.text)) > 2
+               for place, it in enumerate(names.tokens[:at]) if it.text != token.text)
 
 
 def bound_before(names, at, other, program, grammar, moves_on):
@@ -765,7 +820,7 @@ def otherwise(names, at, other, program, grammar):
     text, token, wanted = names.text, names.tokens[at], names.used(at)
     place, kind = text.place(text.tokens[other[0]].at), other[1]
     if kind == wanted:
-        found = one_bound(names, at, program)
+        found = nearly_bound(names, at, program) or one_bound(names, at, program)
         found = found or [*bound_here(names, at, program), *valued(names, at, program)]
         found = found or made(names, at, program, grammar)
         return "Name scope", [*found, f"see: `{token.text}` is bound at {place}"]

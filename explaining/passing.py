@@ -99,7 +99,17 @@ class Passed:
         for it in dict.fromkeys(token.text for token in self.names):
             bound = self.held.get(it)
             if bound and not self.types.is_shared(bound.type) and [token.text for token in self.names].count(it) > 1:
+                yield from self.of_other(it)
                 yield f"see: `{it}` is passed more than once, and a channel has one owner"
+
+    def of_other(self, name):
+        """Lines for another asset that is held, in the second place of one that is passed twice."""
+        second = [token for token in self.names if token.text == name][1]
+        for other, bound in self.held.items():
+            if other not in ("self", *(token.text for token in self.names)) and not self.types.is_shared(bound.type):
+                edit = (second.at, second.end, other)
+                if self.goes_past(self.types.text.edited(edit)):
+                    yield mend(f"write `{other}` in place of the second `{name}`, since a channel has one owner", edit)
 
     def of_types(self):
         """Lines on channels of other types than the parameters: with these types as those of a copy of the process,

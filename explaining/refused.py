@@ -4,6 +4,7 @@ import re
 from . import scripts
 from .forms import Forms, Slip
 from .found import Found
+from .handing import handed
 from .marks import MARK, TAKE_OUT
 from .mends import mend
 from .numbers import PARTED, WRITTEN, in_digits
@@ -296,6 +297,9 @@ class Line(Forms):
                 yield Slip((mark.at, mark.end, it), f"write `{it}` in place of `{mark.text}`")
 
     def mends(self):
+        over = handed(self)
+        if over:
+            return [*over, *self.instead()]
         if self.is_part():
             return self.of_part()
         if self.is_number():

@@ -11,7 +11,7 @@ from .kinds import miscounted, other_parts
 from .losing import Keeping, further, values_of, warned
 from .mends import DATA, Mend, filled, mend, says
 from .names import Names, unused
-from .passing import passed
+from .passing import passed, separated
 from .renamed import fresh
 from .retyped import retyped
 from .shapes import LASTS
@@ -25,7 +25,7 @@ from .texts import LONGEST, joined
 ASKED, DEEP = DATA["asked"], DATA["deep"]
 MOST_BEHIND, MOST_BRANCHES = 4, 4
 # How many kinds and values are tried in the place of others, and what the other kind is.
-MOST_KINDS, MOST_VALUES = 24, 6
+MOST_KINDS, MOST_VALUES, MOST_PAIRS = 24, 6, 10
 OTHER_KIND = {"int": "bool", "bool": "int"}
 # The modes that a process of each mode may spawn.
 SPAWNED = {"R": "R", "S": "RS", "L": "RS", "T": "RS"}
@@ -250,9 +250,16 @@ class Stuck:
             yield from self.waited_early()
         if self.form in TALKING:
             yield from (Try(edit, words) for edit, words in label_before(self))
+            yield from self.received_otherwise()
+            yield from self.moved_here()
         if self.form == "call":
             yield from self.accepted_early()
-            yield from (Try(edit, words) for edit, words in other_called(self))
+        if self.form in ("call", "spawn"):
+            mode = self.process().mode
+            modes = mode if self.form == "call" else SPAWNED[mode]
+            others = [Try(edit, words) for edit, words in other_called(self, modes)]
+            yield from (it for it in others if (self.reach(it) or 0) > self.text.size)
+            yield from self.exchanged()
         if self.form == "send":
             yield from (Try(edit, words) for edit, words in other_sent(self))
             via, sent = self.tokens[self.index + 1 : self.index + 3]
@@ -356,6 +363,50 @@ class Stuck:
         """Gives the name that the instruction which ends before a token is on."""
         before = [at for at in range(self.head, end) if self.tokens[at].text in (";", "{", "=>", "=")]
         return self.channel_at(before[-1] + 1) if before else ""
+
+    def exchanged(self):
+        """Gives two arguments of a `call` or a `spawn` in each other's place, where all is accepted then."""
+        at = self.index + (1 if self.form == "call" else 3)
+        sign = next(place for place in range(at, len(self.tokens)) if self.tokens[place].text == ";")
+        for start, end in ((at + 2, sign), (sign + 1, closing(self.tokens, at + 1))):
+            rows = list(separated(self.tokens, start, end)) if start <= end else []
+            pairs = [(one, two) for place, one in enumerate(rows) for two in rows[place + 1 :]]
+            for pair in pairs[:MOST_PAIRS]:
+                old = [self.text.text[self.tokens[one].at : self.tokens[two - 1].end] for one, two in pair]
+                spans = [(self.tokens[one].at, self.tokens[two - 1].end) for one, two in pair]
+                edits = [(*span, new) for span, new in zip(spans, old[::-1])]
+                it = Try(edits[0], f"let `{old[0]}` and `{old[1]}` change places", (edits[1],))
+                if old[0] != old[1] and (self.reach(it) or 0) > self.text.size:
+                    yield it
+
+    def moved_here(self):
+        """Gives an instruction on the same channel that comes further behind, before the stuck one."""
+        name, last = self.channel_at(self.index), self.index
+        for count in range(MOST_BEHIND):
+            end = self.end(last)
+            if end is None:
+                return
+            last = self.text.index_at(end) + 1
+            stop = self.end(last)
+            if stop is None or self.tokens[last].text in LASTS:
+                return
+            if count and self.channel_at(last) == name and self.names.key(last + 1) != ("step", 1):
+                code = joined(self.tokens[last : self.text.index_at(stop)])
+                words = f"write `{code};` before it, and not at {self.text.place(self.tokens[last].at)}"
+                behind = self.tokens[self.text.index_at(stop) + 1].at
+                yield Try((self.at, self.at, f"{code}; "), words, ((self.tokens[last].at, behind, ""),))
+
+    def received_otherwise(self):
+        """Gives the names of two channels that were received one behind the other in each other's place."""
+        for at in range(self.index - 6, self.head, -1):
+            words = [it.text for it in self.tokens[at : at + 8]]
+            if words[0] == words[4] == "recv" and words[1] == words[5] and self.names.leads(at, self.index):
+                one, two = self.tokens[at + 2], self.tokens[at + 6]
+                edits = (one.at, one.end, two.text), (two.at, two.end, one.text)
+                said = f"let the names `{one.text}` and `{two.text}` at {self.text.place(one.at)} change places"
+                it = Try(edits[0], said, (edits[1],))
+                if (self.reach(it) or 0) > self.text.size:
+                    yield it
 
     def accepted_early(self):
         """Gives the text without an `accept` behind which `self` says and hears nothing up to a call, since the process
@@ -474,12 +525,14 @@ class Stuck:
         whole = types.unfolded(held[name].type) if name in held else None
         if whole is None or whole.sign != ("&" if name == "self" else "+"):
             return
-        codes, ways = [(label, self.talked(name, it, DEEP)) for label, it in whole.parts if label not in has], None
-        if not all(code for _, code in codes):
-            ways = Answers(types, held, self.new, self.process(), self.values)
-            last = self.call_again() if self.tokens[self.head + 1].text in ("S", "L") else "close"
-            codes = [(label, ways.code(name, it, last)) for label, it in whole.parts if label not in has]
-        if codes and all(code for _, code in codes):
+        lacking = [(label, it) for label, it in whole.parts if label not in has]
+        ways = Answers(types, held, self.new, self.process(), self.values)
+        last = self.call_again() if self.tokens[self.head + 1].text in ("S", "L") else "close"
+        both = [(label, self.talked(name, it, DEEP)) for label, it in lacking], None
+        other = [(label, ways.code(name, it, last, self.call_again())) for label, it in lacking], ways
+        for codes, ways in (both, other):
+            if not codes or not all(code for _, code in codes):
+                continue
             rows = [f"{label} => {code}" for label, code in codes]
             what = "a branch" if len(rows) == 1 else "branches"
             words = f"write {what} {' and '.join(f'`{it}`' for it in rows)} too"
@@ -520,7 +573,9 @@ class Stuck:
             if depth == 0:
                 close = self.tokens[at].at
                 break
-        typed = [it for it in self.typed_branches(opening, has, close) if (self.reach(it) or 0) > self.at]
+        typed = [(self.reach(it) or 0, it) for it in self.typed_branches(opening, has, close)]
+        typed = [(reached, it) for reached, it in typed if reached > self.at]
+        typed = [it for reached, it in typed if reached > close or not any(far > close for far, _ in typed)][:1]
         yield from typed
         lacking = [it for it in self.labels() if it not in has and not typed]
         sets = [[it] for it in lacking] + [[it, other] for at, it in enumerate(lacking) for other in lacking[at + 1 :]]
@@ -675,15 +730,15 @@ class Stuck:
         types, step, held = self.reached
         if self.is_of_kind(types, held):
             found = [it for it in self.swapped() if (self.reach(it) or 0) > self.at]
-            lines = [] if found else self.parts()
+            lines = [] if found else [*self.put_first(types, held), *self.parts()]
             if lines:
                 return lines
         kept = [it for it in self.keeping(types, step, held) if (self.reach(it) or 0) > self.at]
-        lines = [mend(it.mend, *it.edits) for it in kept]
-        edits = [it.edit for it in kept]
-        for it in (other for other in self.others_found() if other.edit not in edits):
-            end = warned(types, held, self.code_of(it.edit))
-            lines.append(mend(f"{it.mend}{end}", *it.edits))
+        lines, known = [mend(it.mend, *it.edits) for it in kept], [self.behind_edits(it) for it in kept]
+        for it in self.others_found():
+            end, text = warned(types, held, self.code_of(it.edit)), self.behind_edits(it)
+            lines += [mend(f"{it.mend}{end}", *it.edits)] if text not in known else []
+            known.append(text)
         lines.sort(key=lambda it: "nobody gets it" in it)
         moved = [it for it in lines if it.startswith("mend: let it ")]
         lines = [it for it in lines if it not in moved[1:]]
@@ -694,12 +749,26 @@ class Stuck:
             lines = [mend(it.mend, *it.edits) for it in (*(it for _, it in self.made()), *instead)]
         return list(dict.fromkeys(lines))[:3] or self.parts()
 
+    def put_first(self, types, held):
+        """Gives a line for a value that is put before the one here, where all is accepted then."""
+        name = self.tokens[self.index + 1].text
+        kind = self.tokens[types.unfolded(held[name].type).at].text
+        for value in self.one_value("put $channel $value;", name) or DATA["values"].get(kind, ()):
+            it = Try((self.at, self.at, f"put {name} {value}; "), "")
+            if (self.reach(it) or 0) > self.text.size:
+                return [mend(says("before", code=f"put {name} {value if value in self.values else '..'};"), it.edit)]
+        return []
+
     def is_of_kind(self, types, held):
         """Whether a value is wanted where one is put, so that it is of another kind."""
         via = self.tokens[self.index + 1].text
         if self.form != "put" or via not in held:
             return False
         return types.unfolded(held[via].type).sign == ("/\\" if via == "self" else "->")
+
+    def behind_edits(self, it):
+        """Gives the bytes of the text with edits, without blanks."""
+        return b"".join(self.text.edited(*it.edits).split())
 
     def by_label(self, types, step, held):
         """Gives lines on another label for the last one, by which what is held is sent, where nothing else does."""
@@ -749,6 +818,9 @@ class Stuck:
         found = found or list(self.taken_out())
         furthest = max((reached for reached, _ in found), default=0)
         self.is_whole = furthest > self.text.size
+        if self.is_whole and self.form in ("pay", "get", "put", "take") and all(
+                it.edit[0] < self.at for reached, it in found if reached == furthest):
+            found = [*((reached, it) for reached, it in self.taken_out() if reached == furthest), *found]
         return [it for reached, it in found if reached == furthest]
 
     def made(self):
@@ -771,9 +843,10 @@ class Stuck:
         if self.form not in TERMS:
             return []
         found = other_parts(self.names, self.index, self.behind(), goes_on, is_whole)
-        are_open = not any(it.edits for it in found if isinstance(it, Mend))
+        sure = [it for it in found if isinstance(it, Mend) and it.edits]
+        is_sure = any(goes_through(self.program.check(self.text.edited(*it.edits))) for it in sure)
         has_name = any(self.names.used(at) == "value" for at in range(self.index, self.behind()))
-        return [*(self.kinds_elsewhere() if are_open and has_name else []), *found]
+        return [*([] if is_sure or not has_name else self.kinds_elsewhere()), *found]
 
     def kinds_elsewhere(self):
         """Gives lines on another kind of values in a type or in a head, where the contract is accepted with it."""

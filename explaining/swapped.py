@@ -1,5 +1,6 @@
 """What may stand in the place of something near a stuck instruction: another channel, another process that is spawned,
 or what a value is sent by."""
+from .amounts import closing
 from .passing import separated
 from .texts import joined
 
@@ -110,16 +111,20 @@ def other_spawned(stuck):
             yield (token.at, token.end, it.name), words
 
 
-def other_called(stuck):
-    """Gives edits for another process of the same mode in a `call`, which takes as much as stands there."""
-    types = stuck.reached[0]
-    token, own = stuck.tokens[stuck.index + 1], stuck.process()
-    start, end = stuck.index + 3, stuck.behind() - 1
+def other_called(stuck, modes):
+    """Gives edits for another process of these modes in a `call` or a `spawn`, which takes as much as stands there; one
+    that begins with an `accept` alone may go on as itself, since else it would not come to an end."""
+    types, own, held = stuck.reached[0], stuck.process(), stuck.reached[2].get("self")
+    is_silent = held is None or held.type == held.first
+    at = stuck.index + (1 if stuck.form == "call" else 3)
+    token, start, end = stuck.tokens[at], at + 2, closing(stuck.tokens, at + 1)
     sign = next((at for at in range(start, end) if stuck.tokens[at].text == ";"), end)
     counts = [len(list(separated(stuck.tokens, *side))) for side in ((start, sign), (sign + 1, end)) if side[0] <= side[1]]
     for it in types.processes.values():
         channels = len(it.of_kind("channel"))
-        if it.mode == own.mode and it.name != token.text and [len(it.parameters) - channels, channels] == counts:
+        is_endless = it.name == own.name and (stuck.form == "spawn" or it.mode == "T" or it.mode == "R" and is_silent)
+        is_other = it.mode in modes and it.name != token.text and not is_endless
+        if is_other and [len(it.parameters) - channels, channels] == counts:
             yield (token.at, token.end, it.name), f"write `{it.name}` in place of `{token.text}`"
 
 
