@@ -63,6 +63,28 @@ def built_by(name):
     return f"{top}/{BUILT}/{program}", {**os.environ, **others}
 
 
+class Begun:
+    """A call that was started, and its answer, once it is asked for. Where it is not, the call is cut off."""
+
+    def __init__(self, known, running=None):
+        self.known, self.running = known, running
+
+    def __enter__(self):
+        return self
+
+    def __exit__(self, *_):
+        if self.known is None:
+            self.running.kill()
+            self.running.communicate()
+
+    def answer(self):
+        """Waits for the answer."""
+        if self.known is None:
+            written, _ = self.running.communicate()
+            self.known = Answer(written, status_of(self.running))
+        return self.known
+
+
 class Program:
     """The program of this name, and the options that it runs scripts with. Texts are given to it as files of a folder
     that stands as long as this does. A script that builds the program is called once, without words, so that the
@@ -106,6 +128,16 @@ class Program:
         self.is_asked, start = True, time.monotonic()
         ended = self.ended([self.name, *words], errors, seconds)
         return ended and Answer(ended.stdout, status_of(ended), time.monotonic() - start)
+
+    def begin(self, *words):
+        """Starts a call, and gives what waits for its answer, so that another program can run meanwhile."""
+        failed = None if self.is_asked else self.find()
+        if failed:
+            return Begun(failed)
+        errors = subprocess.DEVNULL if self.is_asked else None
+        self.is_asked = True
+        return Begun(None, subprocess.Popen([self.name, *words], stdout=subprocess.PIPE, stderr=errors,
+                                            env=self.environment))
 
     def ended(self, words, errors, seconds):
         """Runs a program to its end, or gives nothing where that takes longer."""

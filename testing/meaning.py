@@ -1,7 +1,6 @@
 """What explain says of an answer that was not due."""
 import runpy
 
-from explaining import ends, runs, starts
 from explaining.causes import rows_of
 from explaining.found import Found
 
@@ -29,10 +28,14 @@ class Meaning:
 
     def of_line(self, run, entry):
         """Gives the lines on a line of a script that was not carried out."""
+        from explaining import ends, starts  # read where something differs, since that takes as long as a short run
+
         words = entry[0]
         at, cause, row, lines = (starts if words[2] == "refused" else ends).explained(run, entry)
         return self.printed(Found(run.script, at, cause, row, lines, words))
 
     def run(self, text, script, answer, program):
         """Gives a run, of which explain can be asked."""
+        from explaining import runs
+
         return runs.Run(text, script, answer, program, self.explain["grammar"]())

@@ -3,7 +3,7 @@ import re
 
 from explaining.scripts import Script
 from explaining.tales import batches_of
-from explaining.teller import Teller, Untold, journal_of
+from explaining.teller import NoTeller, Teller, Untold, journal_of
 from explaining.texts import LIMIT, Text
 from testing.finding import read
 from testing.tests import REFUSED_SCRIPT, ended, named
@@ -94,6 +94,26 @@ class Told:
         answer = self.has_run(self.program.call("run", *self.files, word, value, *self.steps(), "--journal", kept))
         return answer, read(kept), None
 
+    def at_once(self, policy):
+        """Runs the script by a policy, and has it be told meanwhile, with fewer firings of a batch. Keeps the answer, and
+        gives the tale, with the firings that it has not by the line of each batch that ran into its limit; nothing
+        where a batch that is kept made more, or where the program does not replay what is told."""
+        limit = min(int(self.options.get("--steps", shortened.MOST)), shortened.MOST)
+        with self.program.begin("run", *self.files, "--policy", policy, *self.steps()) as run:
+            try:
+                tale = self.teller.tale(*self.files, "--policy", policy, "--steps", str(limit))
+            except NoTeller:
+                self.has_run(run.answer())
+                raise
+            except Untold:
+                tale = None
+            self.answer = self.has_run(run.answer())
+        if tale is None:
+            return None
+        kept = self.program.kept("told", journal_of(tale))
+        further = beyond(self.answer, self.program.call("replay", *self.files, kept), limit)
+        return None if further is None else (tale, further)
+
     def tale(self, journal, script):
         """Gives the tale of a journal of a script, which has to be that of this journal."""
         files = self.files[0], self.program.kept("told.script", script.data)
@@ -105,6 +125,10 @@ class Told:
     def story(self, is_of_kept=False):
         """Runs the script, keeps the answer, and gives what happens; of batches that are kept alone, where only these
         are asked for. Of a batch that ran into its limit the first firings are told."""
+        word, value = self.order()
+        told = self.at_once(value) if word == "--policy" else None
+        if told:
+            return self.story_of(*told)
         self.answer, journal, tale = self.ran()
         if is_of_kept:
             (script, short), further = shortened.without_undone(self.script, journal), {}
@@ -112,10 +136,31 @@ class Told:
             script, (short, further) = self.script, shortened.cut(journal)
         if tale is None or short != journal:
             tale = self.tale(short, script)
+        return self.story_of(tale, further)
+
+    def story_of(self, tale, further):
+        """Gives what happens by a tale, of which so many firings were left out by the line of each batch."""
         ends = {int(it[0][1]): it[0][2:] for it in self.answer.entries}
         batches = [it._replace(further=further[it.line], end=ends[it.line]) if it.line in further else it
                    for it in batches_of(tale)]
         return Story(batches, self.text, self.script, unit_of(self.answer))
+
+
+def beyond(answer, replayed, limit):
+    """Gives how many firings more than a limit each batch made, by its line, that ran into the one of its run; nothing
+    where another run was replayed than this answer is to, but for that limit."""
+    if len(answer.entries) != len(replayed.entries):
+        return None
+    found = {}
+    for entry, short in zip(answer.entries, replayed.entries):
+        is_cut = entry[0][2] == short[0][2] == "steps" and short[0][3] == str(limit)
+        if is_cut and int(entry[0][3]) > limit:
+            found[int(entry[0][1])] = int(entry[0][3]) - limit
+        elif entry[0] != short[0]:
+            return None
+        if entry[1:] != short[1:]:
+            return None
+    return found
 
 
 def is_of(journal, tale):
