@@ -90,8 +90,10 @@ class Forms:
             yield Slip((self.row.at, self.row.end, new), f"write {said}")
 
     def of_ends(self):
-        """A sign at the end of this line, and of others."""
+        """A sign at the end of this line, and of others; a brace that closes a batch."""
         mark, last = self.marked, self.tokens[-1]
+        if self.is_inside and mark.text == "}" and mark is last and not self.count:
+            yield Slip((mark.at, mark.end, "end"), "write `end` in place of `}`")
         rows = [it for it in self.script.rows[self.row.number - 1 :] if it.tokens and it.tokens[-1].text == mark.text]
         if mark is last and mark.text in (";", ",", ".") and len(rows) > 1 and self.may_end:
             new, done = "", mark.at

@@ -145,6 +145,9 @@ class Habits(Wordings):
             yield Slip("Syntax", words, (before.end, before.end, " 0"))
         if mark.text in (";", "}", "|") and before.text == "emit" and self.wants("term"):
             yield Slip("Syntax", "write `emit ..`, with a value", (before.end, before.end, " 0"))
+        if mark.text == "." and word.text == "case" and self.token(1).kind == "word" and self.token(2).text == "{":
+            new, old = f"{before.text}.{self.token(1).text}; case {before.text}", self.text.text[word.at : self.token(1).end]
+            yield Slip("Syntax", f"write `{new}` in place of `{old}`", (word.at, self.token(1).end, new))
         if mark.text == "self" and before.text in ("accept", "detach", "fwd"):
             words = f"take `self` out, since `{before.text}` is on nothing else"
             yield Slip("Syntax", words, (mark.at, mark.end, ""))

@@ -8,6 +8,8 @@ NAMED = ("List", "Vec", "Array", "ArrayList", "Sequence", "Seq", "vector", "vec"
 BRACKETS = {"[": "]", "<": ">", "(": ")"}
 # What puts an element at an end of a list, and what others have for an operator.
 PUTS = ("push", "append", "add", "cons", "prepend", "insert", "push_front", "push_back", "concat")
+# Those of them that put it behind all others.
+BEHIND = ("push", "append", "add", "push_back", "insert", "concat")
 OPERATORS = {"mod": "%", "rem": "%", "div": "/", "plus": "+", "minus": "-", "times": "*", "is": "=", "eq": "=",
              "equals": "=", "lt": "<"}
 # What others write before the first element and the rest of a list.
@@ -57,10 +59,24 @@ class Lists:
         if mark.text == "." and word.text in PUTS and self.token(2).text == "(" and {"and", "+"} <= self.wanted:
             end = self.closing(2, "(", ")")
             inside = self.text.text[self.token(2).end : end.at].strip()
-            old, new = self.text.text[via.at : end.end], f"{inside} :: {via.text}"
+            old, new = self.text.text[via.at : end.end], self.put_in(word.text, via.text, inside)
             if self.is_number(via.text) and word.text == "add":
                 new = f"{via.text} + {inside}"
             yield self.slip(f"write `{new}` in place of `{old}`", (via.at, end.end, new), "Syntax list")
+
+    def put_in(self, word, name, inside):
+        """Gives the term for a list with an element more: behind all others by a function that puts it there, where the
+        text has one, and else before them."""
+        known = [it for it in self.functions(["list int", "int"]) if self.is_behind(it)] if word in BEHIND else []
+        return f"{known[0]}({name}, {inside})" if known else f"{inside} :: {name}"
+
+    def is_behind(self, name):
+        """Whether a function gives a list with its second value behind all others."""
+        words = [it.text for it in self.text.tokens]
+        at = next(at for at in range(len(words)) if words[at : at + 2] == ["fn", name])
+        body = words[at : next((place for place in range(at, len(words)) if words[place] == ";"), len(words))]
+        second = body[next(place for place in range(len(body)) if body[place] == ",") + 1]
+        return any(body[place : place + 4] == ["=>", second, "::", "nil"] for place in range(len(body)))
 
     def is_number(self, name):
         """Whether a name is that of a parameter which is a number."""
@@ -78,7 +94,7 @@ class Lists:
         inside = self.text.text[mark.end : end.at].strip()
         new, at = fresh(self.text, name.text), self.text.index_at(name.at)
         edits, where = renaming(self.text, at, new)
-        said = f"let {new} = {inside} :: {name.text}"
+        said = f"let {new} = {self.put_in(word.text, name.text, inside)}"
         words = f"write `{said}` in place of `{self.text.text[name.at : end.end]}`"
         words += f", and `{new}` in place of `{name.text}` at {where}" if edits else ""
         slip = self.slip(words, (name.at, end.end, said), "Syntax list")

@@ -28,8 +28,8 @@ def further(types, it, words):
 
 
 def was_ended(types, it):
-    """Whether the process itself brought a channel to its end before."""
-    return types.unfolded(it.type).sign == "1" and it.type != it.first
+    """Whether a channel is at its end that the process itself brought there, or that has nothing but an end."""
+    return types.unfolded(it.type).sign == "1" and (it.type != it.first or it.type.sign == "1")
 
 
 def lost(types, held, code):

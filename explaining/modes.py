@@ -4,6 +4,10 @@ from .shapes import HEADS
 from .texts import joined
 
 
+# How many words are put in at most.
+MOST = 16
+
+
 def words(text, at, count):
     return [it.text for it in text.tokens[at : at + count]]
 
@@ -42,6 +46,26 @@ def tries(text, at):
             yield (mode.at, text.tokens[offered + 1].end, new), f"write `T` {behind}, and take `: 1` out"
 
 
+def each_down(text, answer, program):
+    """Gives a line for a `down` before each name of a shared type that stands where a talk goes on, where all is
+    accepted with these."""
+    edits, at = [], answer.offset
+    while len(edits) < MOST:
+        token = text.tokens[text.index_at(at)]
+        if token.kind != "word" or any(it[0] == token.at for it in edits):
+            return []
+        edits.append((token.at, token.at, "down "))
+        after = program.check(text.edited(*edits))
+        if after.is_accepted or after.is_cause("NoPotential"):
+            places = [text.place(it[0]) for it in edits]
+            where = f"{', '.join(places[:-1])} and {places[-1]}" if places[1:] else places[0]
+            return [mend(f"write `down` before `{token.text}` at {where}, where the contract is shared again", *edits)]
+        if not after.is_cause("Mode"):
+            return []
+        at = after.offset - len("down ") * sum(it[0] < after.offset for it in edits)
+    return []
+
+
 def explained(text, answer, program):
     """Gives lines on what to do: what makes the program accept the contract, or else nothing."""
     found = []
@@ -49,4 +73,4 @@ def explained(text, answer, program):
         after = program.check(text.edited(edit))
         if after.is_accepted or after.is_cause("NoPotential"):
             found.append(mend(words, edit))
-    return found[:3]
+    return found[:3] or each_down(text, answer, program)

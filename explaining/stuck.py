@@ -311,10 +311,30 @@ class Stuck:
         for name in (name for name in dict.fromkeys(names) if name in held):
             whole = types.unfolded(held[name].type)
             if whole.sign == ("&" if name == "self" else "+") and len(whole.parts) <= MOST_BRANCHES:
-                rows = [f"{label} => {code}" for label, _ in whole.parts]
-                said = " and ".join(f"`{label}`" for label, _ in whole.parts)
-                words = f"write a `case {name}` here, with what stands from here on in each of the branches {said}"
-                yield Try((self.at, self.tokens[end - 1].end, f"case {name} {{ {' | '.join(rows)} }}"), words)
+                yield from self.cased(name, whole, code, self.tokens[end - 1].end)
+
+    def cased(self, name, whole, code, end):
+        """Gives a `case` on a channel, with what stands from here on in each branch, or in some of them, where the others
+        end in their own way."""
+        types, step, held = self.reached
+        ways = Answers(types, held, self.new, self.process(), self.values)
+        last = self.call_again() if self.tokens[self.head + 1].text in ("S", "L") else "close"
+        other = [ways.code(name, it, last, self.call_again()) for _, it in whole.parts]
+        labels = [label for label, _ in whole.parts]
+        for same in itertools.product((True, False), repeat=len(labels)):
+            if not any(same) or not all(one or it for one, it in zip(same, other)):
+                continue
+            rows = [f"{label} => {code if one else it}" for label, one, it in zip(labels, same, other)]
+            said = " and ".join(f"`{label}`" for label, one in zip(labels, same) if one)
+            words = f"write a `case {name}` here, with what stands from here on in each of the branches {said}"
+            if not all(same):
+                more = " and ".join(f"`{row}`" for row, one in zip(rows, same) if not one)
+                words = f"write a `case {name}` here, with what stands from here on in the branch {said}, and {more}"
+                words += "".join(says("lost", channel=it) for it in ways.lost)
+            it = Try((self.at, end, f"case {name} {{ {' | '.join(rows)} }}"), words)
+            yield it
+            if (self.reach(it) or 0) > self.text.size:
+                return
 
     def waited_early(self):
         """Gives a `wait` for a channel behind what is done on this directly behind it, with what ends its talk before
