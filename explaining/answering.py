@@ -13,13 +13,22 @@ class Answers:
 
     def __init__(self, types, held, new, process, values):
         self.types, self.held, self.process, self.values = types, held, process, values
-        self.new, self.lost = new, []
+        self.new, self.lost, self.label = new, [], ""
+        self.known = {it.name: it.type for it in process.of_kind("value") if it.name in values}
         self.own = {name: it.type for name, it in held.items() if name != "self" and not types.is_shared(it.type)}
 
-    def code(self, name, it, last, again):
+    def value(self, kind):
+        """Gives the value that is put: of the name of the label, or the one that is known of its kind, or else one that
+        the writer is to choose."""
+        known = [name for name, has in self.known.items() if has == kind]
+        if self.label in known or len(known) == 1:
+            return self.label if self.label in known else known[0]
+        return VALUES.get(kind) or kind.replace("list", "nil", 1)
+
+    def code(self, name, it, last, again, label=""):
         """Gives the code on a channel at a type, with the instruction that the process ends with, or with the call by
         which it goes on as itself, or nothing."""
-        self.name, self.last, self.again = name, last, again
+        self.name, self.last, self.again, self.label = name, last, again, label
         self.left = {other: has for other, has in self.own.items() if other != name}
         rows = self.rows(it, {}, MOST)
         return None if rows is None else " ".join(rows)
@@ -61,8 +70,7 @@ class Answers:
         assets behind it."""
         types, name = self.types, self.name
         if whole.sign in ("/\\", "->"):
-            kind = types.tokens[whole.at].text
-            value = VALUES.get(kind) or "nil " + types.said(whole.at + 1, whole.parts[-1].at - 1)
+            value = self.value(types.said(whole.at, whole.parts[-1].at - 1))
             return (f"put {name} {value};" if is_sent else f"take {name} {new};"), assets
         if whole.sign in ("|", "<"):
             return f"{'pay' if is_sent else 'get'} {name} {{{types.amount(whole)}}};", assets

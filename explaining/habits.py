@@ -55,6 +55,13 @@ class Habits(Wordings):
         if self.wanted == {":"} and mark.kind == "word" and self.is_declared(before.text, "type"):
             new = f"{mark.text}: {before.text}"
             yield Slip("Syntax", f"write `{new}` in place of `{before.text} {mark.text}`", (before.at, mark.end, new))
+            opening = self.token(-2).text
+            if opening in ("(", ",") and ";" not in [it.text for it in self.tokens[: self.index]]:
+                start = before if opening == "(" else self.token(-2)
+                said = f"; {new}" if opening == "(" else new
+                edit = (start.at, mark.end, f"; {new}")
+                words = f"write `{said}` in place of `{before.text} {mark.text}`, behind a `;` since it is a channel"
+                yield Slip("Syntax", words, edit)
         if mark.text in KINDS and "NAME" in self.wanted and behind.kind == "word":
             new = f"{behind.text}: {mark.text}"
             yield Slip("Syntax", f"write `{new}` in place of `{mark.text} {behind.text}`", (mark.at, behind.end, new))
@@ -148,6 +155,9 @@ class Habits(Wordings):
         if mark.text == "." and word.text == "case" and self.token(1).kind == "word" and self.token(2).text == "{":
             new, old = f"{before.text}.{self.token(1).text}; case {before.text}", self.text.text[word.at : self.token(1).end]
             yield Slip("Syntax", f"write `{new}` in place of `{old}`", (word.at, self.token(1).end, new))
+        if before.text == "{" and mark.kind == "word" and "*" in self.wanted and self.token(1).text == "}":
+            words = f"write `*`, for which an amount is found, in place of `{mark.text}`: no amount of gas is read of a value"
+            yield Slip("Syntax", words, (mark.at, mark.end, "*"))
         if mark.text == "self" and before.text in ("accept", "detach", "fwd"):
             words = f"take `self` out, since `{before.text}` is on nothing else"
             yield Slip("Syntax", words, (mark.at, mark.end, ""))
@@ -617,6 +627,12 @@ class Habits(Wordings):
         opening = next((at for at in range(self.index, -1, -1) if self.tokens[at].text == "("), 0)
         start, end = self.tokens[opening], self.closing(opening - self.index, "(", ")")
         names, _, values = self.text.text[start.end : end.at].partition(";")
+        parts = [it.strip() for it in (*names.split(","), *values.split(",")) if it.strip()]
+        channels = [it for it in parts if it.isidentifier() and self.is_channel(it)]
+        others = [it for it in parts if it not in channels]
+        if channels and others and "(" not in names + values:
+            new, old = f"({', '.join(others)}; {', '.join(channels)})", self.text.text[start.at : end.end]
+            yield Slip("Syntax", f"write `{new}` in place of `{old}`", (start.at, end.end, new))
         mend = "let what stands before the `;` and what stands behind it change places"
         yield Slip("Syntax", mend, (start.end, end.at, f"{values.strip()}; {names.strip()}"))
 

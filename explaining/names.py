@@ -301,6 +301,23 @@ def doubled(names, at, program):
     return []
 
 
+def own_number(names, at, program):
+    """Gives a line for `me` in place of a name that a transaction puts, and that a contract compares with what comes
+    there: it is to know who pays."""
+    tokens, token = names.tokens, names.tokens[at]
+    head = next((place for place in range(at, -1, -1) if tokens[place].text in ("proc", "fn")), 0)
+    if tokens[at - 2].text != "put" or tokens[head + 1].text != "T" or names.used(at) != "value":
+        return []
+    words = [it.text for it in tokens]
+    taken = {words[place + 2] for place in range(len(words) - 2) if words[place : place + 2] == ["take", "self"]}
+    is_compared = any(words[place : place + 3] in ([one, "=", token.text], [token.text, "=", one])
+                      for one in taken for place in range(len(words) - 2))
+    edit = (token.at, token.end, "me")
+    if is_compared and goes_through(program.check(names.text.edited(edit))):
+        return [mend(f"write `me`, the account that pays, in place of `{token.text}`", edit)]
+    return []
+
+
 def turned(names, at, program):
     """Gives a line for a name that is sent and bound nowhere, where all is accepted once it is received instead; and for
     one that is received and known already, where it is sent instead."""
@@ -758,6 +775,9 @@ def explained(text, answer, program, grammar):
         other = doubled(names, at, program) or turned(names, at, program)
         return "Name twice", [*other, another(names, at), *see]
     row, lines = of_unbound(names, at, program, grammar, moves_on)
+    own = own_number(names, at, program)
+    if own:
+        return row, [*own, *(it for it in lines if not isinstance(it, Mend))]
     if not any(isinstance(it, Mend) for it in lines):
         lines = [*(missing(names, at, program, is_asked=True) or computed(names, at, program)), *lines]
     return row, lines

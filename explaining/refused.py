@@ -16,6 +16,8 @@ MOST_UNITS, MOST_NUMBER, MOST_BYTES, MOST_DEEP = 10**18, 2**63, 64, 64
 # Words between the parts of a line that say nothing by themselves.
 FILLING = ("by", "as", "from", "with", "for", "on", "to", "new", "let", "exec", "contract", "account", "call", "run",
            "do", "invoke", "create", "make", "deploy", "var", "const")
+# Short words for what a number counts, which are no numbers.
+UNITS = ("s", "h", "d", "kg", "g", "u")
 PUT_IN = {"NAME": "x", "NUMBER": "0", "N": "0"}
 
 
@@ -246,7 +248,8 @@ class Line(Forms):
         """Gives lines on such a number: the same in digits, where it is one and may stand here."""
         mark, before = self.marked, self.at(-1)
         new = in_digits(before.text + mark.text)
-        new = new or (before.text if mark.text.isalpha() and len(mark.text) > 2 else "")
+        is_unit = mark.text.isalpha() and (len(mark.text) > 2 or mark.text in UNITS)
+        new = new or (before.text if is_unit else "")
         edit = (before.at, mark.end, new)
         does = new and self.has_form(edit)
         return [*([mend(f"write `{new}` in place of `{before.text}{mark.text}`", edit)] if does else []), WRITTEN]

@@ -4,6 +4,7 @@ from typing import NamedTuple
 from .lists import Lists
 from .order import HEADS, Order
 from .parting import Parting
+from .renamed import fresh
 from .texts import joined
 
 KINDS = ("int", "bool", "list")
@@ -123,8 +124,9 @@ class Shapes(Order, Lists, Parting):
             end = self.closing(0, "(", ")")
             call = self.text.text[before.at : end.end]
             call = call if ";" in call else f"{call[:-1].rstrip()};)"
-            mend = f"write `spawn .. = {call};` before `send`, with a new name, and this name in place of `{call}`"
-            new = f"spawn x = {call}; send {self.token(-2).text} x"
+            name = fresh(self.text, before.text)
+            mend = f"write `spawn {name} = {call};` before `send`, and `{name}` in place of `{call}`"
+            new = f"spawn {name} = {call}; send {self.token(-2).text} {name}"
             yield Slip("Syntax", mend, (third.at, end.end, new))
 
     def of_received(self):

@@ -549,7 +549,7 @@ class Stuck:
         ways = Answers(types, held, self.new, self.process(), self.values)
         last = self.call_again() if self.tokens[self.head + 1].text in ("S", "L") else "close"
         both = [(label, self.talked(name, it, DEEP)) for label, it in lacking], None
-        other = [(label, ways.code(name, it, last, self.call_again())) for label, it in lacking], ways
+        other = [(label, ways.code(name, it, last, self.call_again(), label)) for label, it in lacking], ways
         for codes, ways in (both, other):
             if not codes or not all(code for _, code in codes):
                 continue

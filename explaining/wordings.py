@@ -1,5 +1,6 @@
 """Slips in the wording of an instruction, a term or a kind: it has what it needs, in another order or by the words of
 other languages."""
+from .known import BY_NAME
 from .comparisons import translated
 from .renamed import fresh
 from .shapes import HEADS, KINDS, Shapes, Slip
@@ -80,7 +81,8 @@ class Wordings(Shapes):
     def of_asked(self):
         """A label in a term, as if its answer were a value."""
         mark, via, label, at = self.marked, self.token(-1), self.token(1), self.instruction()
-        if mark.text == "." and self.is_declared(label.text, "fn") and self.token(2).text == "(":
+        is_applied = self.token(2).text == "(" and {"and", "+"} <= self.wanted and label.text in BY_NAME
+        if mark.text == "." and (self.is_declared(label.text, "fn") or is_applied) and self.token(2).text == "(":
             end = self.closing(2, "(", ")")
             inside = self.text.text[self.token(2).end : end.at].strip()
             new, old = f"{label.text}({via.text}{', ' if inside else ''}{inside})", self.text.text[via.at : end.end]
