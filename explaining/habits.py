@@ -36,11 +36,23 @@ class Habits(Wordings):
     """What is found of the tokens around an offence, by the class that is made of this one."""
 
     def of_habits(self):
-        ways = (self.of_order, self.of_returns, self.of_terms, self.of_cases, self.of_kinds, self.of_calls)
+        ways = (self.of_pairs, self.of_order, self.of_returns, self.of_terms, self.of_cases, self.of_kinds, self.of_calls)
         ways = (*ways, self.of_loops, self.of_braces, self.of_heard, self.of_tried, self.of_other_words,
                 self.of_bare, self.of_arrows, self.of_steps)
         for way in (self.of_wordings, self.of_chained, self.of_assigned, self.of_shapes, *ways):
             yield from way()
+
+    def of_pairs(self):
+        """Several types in parentheses, as a pair is written in other languages: each is sent one behind the other."""
+        mark = self.marked
+        opening = next((at for at in range(self.index - 1, 0, -1) if self.tokens[at].text in ("(", "{", ";")), 0)
+        if mark.text != "," or self.tokens[opening].text != "(" or self.tokens[0].text != "type" or ")" not in self.wanted:
+            return
+        end = self.closing(opening - self.index, "(", ")")
+        parts = self.text.text[self.tokens[opening].end : end.at].split(",")
+        new, old = " * ".join(it.strip() for it in parts), self.text.text[self.tokens[opening].at : end.end]
+        words = f"write `{new}` in place of `{old}`, since each is sent by itself"
+        yield Slip("Syntax", words, (self.tokens[opening].at, end.end, new))
 
     def of_order(self):
         """Slips where something stands behind what it stands before."""

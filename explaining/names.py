@@ -301,6 +301,17 @@ def doubled(names, at, program):
     return []
 
 
+def nothing(names, at, program):
+    """Gives a line for a word that means in other languages that there is nothing, where no value has the name."""
+    token = names.tokens[at]
+    if token.text not in NOTHINGS or names.used(at) != "value":
+        return []
+    edit = (token.at, token.end, "(0 - 1)")
+    if not goes_through(program.check(names.text.edited(edit))):
+        return []
+    return [mend(f"write a number that says that there is nothing, as `0 - 1`, in place of `{token.text}`", edit)]
+
+
 def own_number(names, at, program):
     """Gives a line for `me` in place of a name that a transaction puts, and that a contract compares with what comes
     there: it is to know who pays."""
@@ -775,7 +786,7 @@ def explained(text, answer, program, grammar):
         other = doubled(names, at, program) or turned(names, at, program)
         return "Name twice", [*other, another(names, at), *see]
     row, lines = of_unbound(names, at, program, grammar, moves_on)
-    own = own_number(names, at, program)
+    own = own_number(names, at, program) or nothing(names, at, program)
     if own:
         return row, [*own, *(it for it in lines if not isinstance(it, Mend))]
     if not any(isinstance(it, Mend) for it in lines):

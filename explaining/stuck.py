@@ -250,6 +250,7 @@ class Stuck:
             yield from self.waited_early()
         if self.form in TALKING:
             yield from (Try(edit, words) for edit, words in label_before(self))
+            yield from (it for it in self.spent_before() if (self.reach(it) or 0) > self.text.size)
             yield from self.received_otherwise()
             yield from self.moved_here()
         if self.form == "call":
@@ -283,6 +284,27 @@ class Stuck:
                 new = f"spawn {name} = {it.name}({value};); send {via} {name}"
                 old = joined(self.tokens[self.index : self.text.index_at(self.end())])
                 yield Try((self.at, self.end(), new), says("instead", new=new, old=old))
+
+    def spent_before(self):
+        """Gives the instruction that pays what the type says, in place of a `work` of as much on the way here."""
+        types, _, held = self.reached
+        name = self.channel_at(self.index)
+        whole = types.unfolded(held[name].type) if name in held else None
+        if whole is None or whole.sign != ("|" if name == "self" else "<"):
+            return
+        amount = types.amount(whole)
+        for step, _ in self.way()[::-1]:
+            words = [it.text for it in self.tokens[step.at : step.end]][:4]
+            if words == ["work", "{", amount, "}"]:
+                token, new = self.tokens[step.at], f"pay {name} {{{amount}}}"
+                old, place = f"work {{{amount}}}", self.text.place(token.at)
+                edits = (token.at, self.tokens[step.at + 3].end, ""), (self.at, self.at, f"{new}; ")
+                if self.tokens[step.at + 5 : step.at + 6] == self.tokens[self.index : self.index + 1]:
+                    edits = ((token.at, self.tokens[step.at + 3].end, new),)
+                else:
+                    edits = (edits[0][0], self.tokens[step.at + 4].end, ""), edits[1]
+                yield Try(edits[0], f"write `{new}` in place of `{old}` at {place}", edits[1:])
+                return
 
     def paid_instead(self):
         """Gives the instruction that pays what the type says, or gets it, in place of one that is on a value or a
