@@ -282,6 +282,39 @@ def ended_at(tokens, start):
     return None
 
 
+def matched(names, at, program):
+    """Gives a line for a `match` between codes on a list that is a value: an `if` with the same two codes, before which
+    the first element and the rest get their names."""
+    tokens, name = names.tokens, names.tokens[at].text
+    words = [it.text for it in tokens[at - 1 : at + 4]]
+    if words[:1] + words[2:] != ["match", "{", "nil", "=>"]:
+        return []
+    depth, bar, end = 0, None, at + 1
+    for end in range(at + 1, len(tokens)):
+        depth += (tokens[end].text == "{") - (tokens[end].text == "}")
+        bar = end if depth == 1 and tokens[end].text == "|" and bar is None else bar
+        if depth == 0:
+            break
+    if bar is None or [it.text for it in tokens[bar + 2 : bar + 5 : 2]] != ["::", "=>"]:
+        return []
+    first, rest = tokens[bar + 1].text, tokens[bar + 3].text
+    codes = [names.text.text[tokens[one].at : tokens[other].end] for one, other in ((at + 4, bar - 1), (bar + 5, end - 1))]
+    h, t = fresh(names.text, first), fresh(names.text, rest)
+    for kind, zero in (("int", "0"), ("bool", "false")):
+        lets = [(first, f"nil => {zero}", h), (rest, f"nil => nil {kind}", t)]
+        used = {it.text for it in tokens[bar + 5 : end]}
+        code = "".join(f"let {it} = match {name} {{ {none} | {h} :: {t} => {one} }}; " for it, none, one in lets if it in used)
+        new = f"if (match {name} {{ nil => true | {h} :: {t} => false }}) {{ {codes[0]} }} else {{ {code}{codes[1]} }}"
+        edit = (tokens[at - 1].at, tokens[end].end, new)
+        if goes_through(program.check(names.text.edited(edit))):
+            test = new[: new.index(") {") + 1]
+            words = f"write `{test} {{ .. }} else {{ {code}.. }}` in place of this `match`, with the same two codes: a list"
+            line = mend(f"{words} that is a value is matched in a term", edit)
+            line.edits = (edit,)
+            return [line]
+    return []
+
+
 def doubled(names, at, program):
     """Gives a line for an instruction that binds a name a second time, and stands there a second time as it is."""
     tokens = names.tokens
@@ -858,6 +891,7 @@ def otherwise(names, at, other, program, grammar):
     see = f"see: `{token.text}` is {said(kind)}, by {place}, and {said(wanted)} is wanted here"
     found = declared_ones(names, at, wanted, program) if wanted == "function" else []
     found = found or (applied(names, at, program) if wanted == "function" else [])
+    found = found or (matched(names, at, program) if wanted == "list" else [])
     found = found or compared(names, at) or one_bound(names, at, program)
     mends = found or worth(names, at, program, grammar) or made(names, at, program, grammar)
     mends = mends or bound_here(names, at, program)

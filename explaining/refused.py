@@ -307,8 +307,19 @@ class Line(Forms):
             return self.of_part()
         if self.is_number():
             return self.of_digits()
-        found = next((it for it in self.slips() if self.has_form(it.edit)), None) or self.first_of_several()
+        slips = (it._replace(edit=self.apart(it.edit)) for it in self.slips())
+        found = next((it for it in slips if self.has_form(it.edit)), None) or self.first_of_several()
         return [mend(found.mend, found.edit)] if found else self.instead()
+
+    def apart(self, edit):
+        """Gives an edit with a blank where it would make one word of two."""
+        (start, end, new), text = edit, self.script.text
+        before, behind = text[start - 1 : start] if start else "", text[end : end + 1]
+        if new and "".join((before, new[0])).isalnum() and before:
+            new = f" {new}"
+        if not new and before.isalnum() and behind.isalnum():
+            new = " "
+        return start, end, new
 
     def first_of_several(self):
         """Gives the first slip of a line that has more: with its edit at least two tokens more are read."""
