@@ -170,6 +170,10 @@ class Habits(Wordings):
         if before.text == "{" and mark.kind == "word" and "*" in self.wanted and self.token(1).text == "}":
             words = f"write `*`, for which an amount is found, in place of `{mark.text}`: no amount of gas is read of a value"
             yield Slip("Syntax", words, (mark.at, mark.end, "*"))
+        if word.text == "send" and (mark.text in ("me", "true", "false", "nil") or mark.kind == "number"):
+            new, old = f"put {before.text}", f"send {before.text} {mark.text}"
+            words = f"write `{new} {mark.text}` in place of `{old}`, since it is a value"
+            yield Slip("Syntax", words, (word.at, before.end, new))
         if mark.text == "self" and before.text in ("accept", "detach", "fwd"):
             words = f"take `self` out, since `{before.text}` is on nothing else"
             yield Slip("Syntax", words, (mark.at, mark.end, ""))

@@ -16,10 +16,10 @@ class Handing:
         known = [it for it in line.senders() if it in words]
         numbers = [it for it in self.row.tokens if it.kind == "number"]
         self.is_such = any(it in WORDS for it in words) or words[1:3] == ["-", ">"]
-        self.is_such = self.is_such and len(known) == 2 and len(numbers) == 1 and "[" not in words
+        self.is_such = self.is_such and len(known) in (1, 2) and len(numbers) == 1 and "[" not in words
         self.is_such = self.is_such and not (line.codes and set(words) & set(line.codes.processes))
         if self.is_such:
-            self.giver, self.getter = self.sides(words, sorted(known, key=words.index))
+            self.giver, self.getter = self.sides(words, sorted(known, key=words.index)) if known[1:] else (None, known[0])
             self.units = int(numbers[0].text)
 
     def sides(self, words, known):
@@ -29,7 +29,19 @@ class Handing:
         return known[::-1] if is_turned else known
 
     def lines(self):
+        if self.giver is None:
+            return list(self.paid_out())[:1]
         return [*self.by_contract(), *self.by_deposit()][:2]
+
+    def paid_out(self):
+        """Gives a line for a transaction that gets as much from a contract, for who is to be paid."""
+        codes = self.line.codes
+        names = [it.name for it in codes.processes.values() if it.mode == "T" and self.moved(it) == self.units] if codes else []
+        for row in (self.called(name, self.getter) for name in names[:MOST_PAIRS]):
+            edit = (self.row.at, self.row.end, row)
+            answer = self.line.program.run(codes.text.data, self.upto(edit), seconds=5) if row else None
+            if answer and answer.entries and answer.entries[-1][0][2] == "committed":
+                yield mend(f"write `{row}` in place of this line, which has the contract pay", edit)
 
     def by_contract(self):
         """Gives a line for a transaction that pays as much to a contract, and another one that gets it from there."""

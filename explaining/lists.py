@@ -22,7 +22,7 @@ class Lists:
     """What is found of the tokens around an offence, by the class that is made of this one."""
 
     def of_all_lists(self):
-        ways = (self.of_list_kinds, self.of_puts, self.of_put_into, self.of_patterns, self.of_operators)
+        ways = (self.of_amounts, self.of_list_kinds, self.of_puts, self.of_put_into, self.of_patterns, self.of_operators)
         ways = (*ways, self.of_elements)
         for way in (*ways, self.of_goings):
             yield from way()
@@ -48,6 +48,14 @@ class Lists:
                 yield self.slip_of_list(mark, self.token(2), kinds[kind])
             if behind.text in kinds and mark.text != "list":
                 yield self.slip_of_list(mark, behind, kinds[behind.text])
+
+    def of_amounts(self):
+        """The amount that each element of a list carries, behind the kind of the list."""
+        mark, kind, word = self.marked, self.token(-1), self.token(-2)
+        if mark.text == "{" and word.text == "list" and kind.text in BASES and self.token(2).text == "}":
+            amount, end = self.token(1).text, self.token(2).end
+            new, old = f"list {{{amount}}} {kind.text}", self.text.text[word.at : end]
+            yield self.slip(f"write `{new}` in place of `{old}`", (word.at, end, new))
 
     def slip_of_list(self, first, last, kind):
         old = self.text.text[first.at : last.end]

@@ -166,7 +166,9 @@ def others(names, at, other):
         yield (tokens[start].at, token.end, f"list {term}, {token.text}"), said
     if other == "function" and names.used(at) == "process" and words[2:3] == ["call"]:
         yield from called(names, at)
-    if other in (None, "value") and names.used(at) == "channel":
+    heads = [before for before in range(at, -1, -1) if tokens[before].text == "proc"]
+    is_offered = bool(heads) and tokens[heads[0] + 1].text != "T"
+    if other in (None, "value") and names.used(at) == "channel" and is_offered:
         yield (token.at, token.end, "self"), f"write `self` in place of `{token.text}`"
     if other == "process" and names.used(at) == "function" and (words[0:1], words[2:3]) == (["let"], ["="]):
         end = closing(tokens, at + 1)
@@ -280,6 +282,39 @@ def ended_at(tokens, start):
         if depth < 0:
             return None
     return None
+
+
+def started(names, at, program):
+    """Gives lines for a process that is started under a name which is bound nowhere on the way here, and is talked to,
+    where all is accepted with it; one that is started nowhere else in the declaration comes first."""
+    tokens, token = names.tokens, names.tokens[at]
+    head = next((place for place in range(at, -1, -1) if tokens[place].text == "proc"), None)
+    start = next((place for place in range(at, 0, -1) if tokens[place - 1].text in (";", "=>", "=", "{", "else")), 0)
+    is_talk = tokens[start].text in ("case", "take", "recv", "put", "send", "wait") and at == start + 1 or at == start
+    if names.used(at) != "channel" or head is None or not is_talk or token.text == "self":
+        return []
+    end = next((place for place in range(head + 1, len(tokens)) if tokens[place].text in ("proc", "fn", "type")), len(tokens))
+    known = {tokens[place + 3].text for place in range(head, end - 3) if tokens[place].text == "spawn"}
+    if any(names.declared(place) == "channel" and tokens[place].text == token.text for place in range(head, end)):
+        return []
+    rows = [place for place, it in enumerate(tokens) if it.text == "proc" and tokens[place + 1].text == "R"]
+    body = next(place for place in range(head, end) if tokens[place].text == "=") + 1
+    lines = []
+    for place in sorted(rows, key=lambda one: tokens[one + 2].text in known)[:MOST_BOUND]:
+        inside = joined(tokens[place + 4 : closing(tokens, place + 3)])
+        kinds = [it.partition(":")[2].strip() for it in inside.partition(";")[0].split(",") if it.strip()]
+        if inside.partition(";")[2].strip() or any("{" in it for it in kinds):
+            continue
+        tried = ", ".join({"int": "0", "bool": "true"}.get(it, it.replace("list", "nil", 1)) for it in kinds)
+        new = f"spawn {token.text} = {tokens[place + 2].text}({tried};);"
+        for one in dict.fromkeys((start, body)):
+            edit = (tokens[one].at, tokens[one].at, f"{new} ")
+            if goes_through(program.check(names.text.edited(edit))):
+                said = new.replace(f"({tried};)", "(..;)") if kinds else new
+                words = f"write `{said}` before `{joined(tokens[one : one + 2])}` at {names.text.place(tokens[one].at)}"
+                lines.append(mend(words, edit))
+                break
+    return lines[:3]
 
 
 def matched(names, at, program):
@@ -537,7 +572,9 @@ def one_bound(names, at, program):
     taken = {names.tokens[place].text for place, it in enumerate(names.tokens[:-1]) if place != at
              and names.tokens[place - 1].text == "acquire" and (names.leads(place, at) or names.leads(at, place))}
     taken = taken if names.tokens[at - 1].text == "acquire" else set()
-    known = [it for it in ["self", *dict.fromkeys(known[::-1])] if it not in taken]
+    head = next((place for place in range(at, -1, -1) if names.tokens[place].text == "proc"), 0)
+    own = [] if names.tokens[head + 1].text == "T" else ["self"]
+    known = [it for it in [*own, *dict.fromkeys(known[::-1])] if it not in taken]
     edits = [(token.at, token.end, it) for it in known[:MOST_BOUND]]
     found = [it for it in edits if goes_through(program.check(names.text.edited(it)))]
     return [mend(f"write `{found[0][2]}` in place of `{token.text}`", found[0])] if len(found) == 1 else []
@@ -833,7 +870,7 @@ def of_unbound(names, at, program, grammar, moves_on):
     if wanted is None:
         return "Name", []
     near = next((it for it in names.near(at) if moves_on(it)), None)
-    lacking = missing(names, at, program) or turned(names, at, program)
+    lacking = missing(names, at, program) or turned(names, at, program) or started(names, at, program)
     if not lacking and near is None and (other is None or other[1] == wanted):
         lacking = one_bound(names, at, program)
         is_asked = names.tokens[at - 1].text == "acquire" and not bound_here(names, at, program, is_sure=True)

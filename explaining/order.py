@@ -36,6 +36,8 @@ class Order:
     def of_inside(self):
         """A potential among the parameters, which stands behind them."""
         mark, words = self.marked, [it.text for it in self.tokens[: self.index]]
+        if words[-2:-1] == ["list"]:
+            return
         if mark.text != "{" or words[:1] != ["proc"] or "=" in words or "(" not in words or ")" in words:
             return
         last, end = self.closing(0, "{", "}"), self.closing(3 - self.index, "(", ")")

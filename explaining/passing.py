@@ -4,6 +4,7 @@ from .counted import completed, of_two, shortened
 from .kinds import KINDS
 from .mends import mend
 from .names import unused
+from .renamed import fresh
 
 
 def separated(tokens, start, end):
@@ -63,9 +64,21 @@ class Passed:
             is_list = bound is not None and bound[1] == "list"
             said = self.types.said(start, end)
             if wanted.kind == "list" and not is_list:
+                yield from self.of_nil(start, end, wanted, said)
                 yield f"see: `{wanted.name}` is a list that carries potential, and `{said}` is a value"
             if wanted.kind == "value" and is_list:
                 yield f"see: `{wanted.name}` is a value, and `{said}` is a list that carries potential"
+
+    def of_nil(self, start, end, wanted, said):
+        """A line for an empty list that carries potential, in the place of an empty one that is a value."""
+        tokens = self.types.tokens
+        if tokens[start].text != "nil":
+            return
+        name = fresh(self.types.text, wanted.name)
+        at, code = tokens[self.step.at].at, f"let {name} = {wanted.type};"
+        edits = (at, at, f"{code} "), (tokens[start].at, tokens[end - 1].end, name)
+        if self.goes_past(self.types.text.edited(*edits)):
+            yield mend(f"write `{code}` before it, and `{name}` in place of `{said}`", *edits)
 
     def of_kinds(self):
         """Lines on terms of another kind than the parameter: with a value of this kind in its place, the check goes

@@ -248,7 +248,7 @@ class Line(Forms):
         """Gives lines on such a number: the same in digits, where it is one and may stand here."""
         mark, before = self.marked, self.at(-1)
         new = in_digits(before.text + mark.text)
-        is_unit = mark.text.isalpha() and (len(mark.text) > 2 or mark.text in UNITS)
+        is_unit = mark.text.isalpha() and (len(mark.text) > 1 or mark.text in UNITS)
         new = new or (before.text if is_unit else "")
         edit = (before.at, mark.end, new)
         does = new and self.has_form(edit)

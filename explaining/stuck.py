@@ -16,7 +16,7 @@ from .renamed import fresh
 from .retyped import retyped
 from .shapes import LASTS
 from .swapped import acquired_later, acquired_of, ended_otherwise, label_before, made_here, other_called
-from .swapped import other_channel, other_sent, other_spawned, put_instead
+from .swapped import other_channel, other_made, other_sent, other_spawned, put_instead
 from .syntax import distance
 from .texts import LONGEST, joined
 
@@ -248,12 +248,16 @@ class Stuck:
             yield from self.heard_first()
         if self.form == "wait":
             yield from self.waited_early()
+        if self.form in ("call", "spawn", "add"):
+            yield from self.other_list()
         if self.form in TALKING:
             yield from (Try(edit, words) for edit, words in label_before(self))
             yield from (it for it in self.spent_before() if (self.reach(it) or 0) > self.text.size)
             yield from self.received_otherwise()
             yield from self.moved_here()
         if self.form == "call":
+            others = [Try(edit, words) for edit, words in other_made(self)]
+            yield from (it for it in others if (self.reach(it) or 0) > self.text.size)
             yield from self.accepted_early()
         if self.form in ("call", "spawn"):
             mode = self.process().mode
@@ -405,6 +409,16 @@ class Stuck:
         """Gives the name that the instruction which ends before a token is on."""
         before = [at for at in range(self.head, end) if self.tokens[at].text in (";", "{", "=>", "=")]
         return self.channel_at(before[-1] + 1) if before else ""
+
+    def other_list(self):
+        """Gives another list that carries potential in place of one that was used up, where all is accepted then."""
+        lists = [self.tokens[at].text for at in range(self.head, self.index)
+                 if self.names.declared(at) == "list" and self.names.leads(at, self.index)]
+        rows = [at for at in range(self.index, self.behind()) if self.tokens[at].text in lists]
+        for token, name in ((self.tokens[at], name) for at in rows for name in lists[::-1]):
+            it = Try((token.at, token.end, name), f"write `{name}` in place of `{token.text}`")
+            if name != token.text and (self.reach(it) or 0) > self.text.size:
+                yield it
 
     def exchanged(self):
         """Gives two arguments of a `call` or a `spawn` in each other's place, where all is accepted then."""
@@ -711,7 +725,9 @@ class Stuck:
         token, end = self.tokens[self.index], self.tokens[self.behind() - 1].end
         old = self.text.text[token.at : end]
         found = [new for new in (*it.forwards(process), *it.calls(process)) if new != old]
-        found.sort(key=lambda new: new.startswith("call ") and not self.accepts_first(new[5 : new.index("(")]))
+        called = [f"call {self.tokens[self.index + 1].text}("] if self.form == "call" else []
+        found.sort(key=lambda new: (not any(map(new.startswith, called)), new.startswith("call ") and
+                                    not self.accepts_first(new[5 : new.index("(")])))
         for new in found:
             yield Try((token.at, end, new), says("instead", new=new, old=old))
         yield from self.sent_instead(it, given)

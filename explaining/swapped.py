@@ -144,6 +144,23 @@ def label_before(stuck):
             yield (token.at, token.end, label), f"write `{label}` in place of `{token.text}` at {types.text.place(token.at)}"
 
 
+def other_made(stuck):
+    """Gives edits for another process in the `spawn` of a channel that is passed on in a `call`, with as many values."""
+    types, _, held = stuck.reached
+    given = [it.text for it in stuck.tokens[stuck.index : stuck.behind()] if it.text in held]
+    for name in dict.fromkeys(given):
+        bound = held[name].bound
+        if stuck.tokens[bound - 1].text != "spawn" or stuck.tokens[bound + 2].text not in types.processes:
+            continue
+        token = stuck.tokens[bound + 2]
+        old = types.processes[token.text]
+        for it in types.processes.values():
+            kinds = [[(one.kind, one.type) for one in process.parameters] for process in (it, old)]
+            if it.mode == old.mode and it.name != old.name and kinds[0] == kinds[1]:
+                yield (token.at, token.end, it.name), \
+                    f"write `{it.name}` in place of `{old.name}` at {types.text.place(token.at)}"
+
+
 def made_here(stuck, new):
     """Gives edits that make a channel of the type that is wanted, where none is held, and send it: how it is said and
     what is tried. The values are left to the writer."""
