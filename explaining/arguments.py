@@ -349,10 +349,15 @@ class Arguments:
         return [mend(f"write this line behind line {row.number}", *edits)] if is_made else []
 
     def of_one(self, token, suits):
-        """Gives a line for the one contract that has the type, where its name is one letter away."""
+        """Gives a line for the one contract that has the type: what is meant, where its name is one letter away."""
         edit = (token.at, token.end, suits[0] if suits else "")
-        does = len(suits) == 1 and distance(suits[0], token.text) == 1 and self.refused.goes_on(edit)
-        return [mend(f"did you mean `{suits[0]}`?", edit)] if does else []
+        if len(suits) != 1 or self.made_elsewhere(token.text) or not self.refused.goes_on(edit):
+            return []
+        if distance(suits[0], token.text) == 1:
+            return [mend(f"did you mean `{suits[0]}`?", edit)]
+        is_known = token.text in self.run.codes.processes or self.of_account(token.text)
+        words = f"write `{suits[0]}`, the one contract of this type, in place of `{token.text}`"
+        return [] if is_known or not token.text.isidentifier() else [mend(words, edit)]
 
     def of_type_name(self, argument, wanted, suits):
         """Gives a line where the name is that of the type, or of a process that offers it, and one contract alone has

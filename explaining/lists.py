@@ -143,7 +143,7 @@ class Lists:
             return
         end = self.closing(0, "[", "]")
         inside = self.text.text[mark.end : end.at].strip()
-        name = next(iter(self.functions(["list int", "int"])), "")
+        name = next((it for it in self.functions(["list int", "int"]) if self.gives(it) == "int"), "")
         own = "at" if "at" not in {it.text for it in self.text.tokens} else "element_at"
         new, old = f"{name or own}({before.text}, {inside})", self.text.text[before.at : end.end]
         head = next((it for it in self.text.tokens if it.text in HEADS), mark)
@@ -151,6 +151,14 @@ class Lists:
         words = "" if name else f", and before all others the function `{AT.format(own, own).strip()}`"
         slip = self.slip(f"write `{new}` in place of `{old}`{words}", (before.at, end.end, new), "Syntax index")
         yield slip._replace(more=more)
+
+    def gives(self, name):
+        """Gives the kind that a function gives."""
+        words = [it.text for it in self.text.tokens]
+        at = next(at for at in range(len(words)) if words[at : at + 2] == ["fn", name])
+        colon = next((place for place in range(at, len(words)) if words[place] == ")"), at) + 1
+        equal = next((place for place in range(colon, len(words)) if words[place] == "="), colon)
+        return " ".join(words[colon + 1 : equal])
 
     def functions(self, kinds):
         """Gives the functions of the text with parameters of these kinds."""

@@ -136,6 +136,18 @@ def unused(text):
     return next(it for it in (f"n{number}" for number in range(len(taken) + 1)) if it not in taken)
 
 
+def needless(names, at, program):
+    """Gives a line for a `let` that gives a channel another name, which nothing uses: it is taken out."""
+    tokens = names.tokens
+    words = [it.text for it in tokens[at - 3 : at + 2]]
+    if words[:1] + words[2:3] + words[4:] != ["let", "=", ";"] or names.used(at) != "value":
+        return []
+    edit = (tokens[at - 3].at, tokens[at + 1].end, "")
+    if not goes_through(program.check(names.text.edited(edit))):
+        return []
+    return [mend(f"take `{' '.join(words[:4])}` out, since a channel has one name, and nothing uses this one", edit)]
+
+
 def others(names, at, other):
     """Gives edits for a name that is something else than is wanted, each with what it is in words: a process that
     offers this definition, the two names of an instruction the other way round, what is written for a channel or a
@@ -884,7 +896,9 @@ def of_unbound(names, at, program, grammar, moves_on):
         early = [*missing(names, at, program, is_asked=True), *early]
     if early and not (other and other[1] not in (wanted, None) and names.leads(other[0], at)):
         return "Name scope", early
-    mends = mended(names, at, other and other[1], program)
+    told = needless(names, at, program) if other and other[1] == "channel" else []
+    told = told or worth(names, at, program, grammar) if other and other[1] == "channel" and wanted == "value" else []
+    mends = told or mended(names, at, other and other[1], program)
     if mends:
         return ("Name other" if other else "Name unknown"), mends
     if other:

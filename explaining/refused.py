@@ -79,6 +79,9 @@ class Line(Forms):
             yield Slip((mark.at, mark.at + 1, "//"), "begin a comment with `//` in place of `#`")
         if before.text == "-" and mark.kind != "number" and "NUMBER" in self.wanted:
             yield Slip((before.end, before.end, "1"), f"write a number behind `-`")
+        if mark.text == "." and before.kind == "number" and before.end == mark.at and self.at(1).kind != "number":
+            yield Slip((mark.at, mark.end, ""), "take `.` out")
+        yield from self.of_asked()
         yield from self.of_forms()
         yield from self.of_starts()
         yield from self.of_spelling()
@@ -130,9 +133,21 @@ class Line(Forms):
             new = f"{self.tokens[-1].text} {mark.text if is_whole else in_digits(mark.text + behind.text)}"
             yield Slip((mark.at, self.row.end, new), f"write `deposit {new}`")
 
+    def of_asked(self):
+        """A line that asks a contract for something by the name of a transaction: who pays runs it."""
+        words, known = [it.text for it in self.tokens], self.script.accounts(self.row.number)
+        processes = self.codes.processes if self.codes else {}
+        if self.count or words[2:3] != ["."] or len(words) < 4 or words[3] not in processes or not known:
+            return
+        if processes[words[3]].mode == "T" and [it.kind for it in processes[words[3]].parameters] == ["channel"]:
+            new = f"exec {known[0]} {words[3]}(; {words[1]})"
+            yield Slip((self.row.at, self.row.end, new), f"write `{new}`, whose results stand in the report")
+
     def of_starts(self):
         """Slips at the start of a line: what is left out there, or stands in another order."""
         mark, behind = self.marked, self.at(1)
+        if len(self.tokens) == 1 and self.tokens[0].text in ("exec", "let", "deposit"):
+            yield Slip((self.row.at, self.row.end, ""), "take this line out, since nothing stands behind its first word")
         yield from self.of_deposit()
         if self.wanted == {"NAME"} and mark.text == ".":
             yield Slip((mark.at, mark.end, " "), "write a blank in place of `.`")
@@ -270,7 +285,11 @@ class Line(Forms):
         labels = [it for it in labels if it.at > before.at and self.script.text[self.row.at : it.at].count("(") == 1]
         if labels:
             text, first = self.script.text[labels[0].at : self.row.end], labels[0]
-            new = re.sub(r"[A-Za-z_]\w*[ \t]*[=:]", "", text)
+            new = re.sub(r"[A-Za-z_]\w*[ \t]*[=:][ \t]*", "", text)
+            parts = [it.strip() for it in new.rstrip(" \t)").split(",")]
+            if ";" not in new and "[" not in new:
+                given = [it for it in parts if it[:1].isalpha() and it not in ("true", "false")]
+                new = f"{', '.join(it for it in parts if it not in given)}; {', '.join(given)})"
             yield Slip((first.at, self.row.end, new), "write the arguments alone, in the order of the parameters")
         texts = [it.text for it in self.tokens]
         if texts.count("(") == 1 and texts[-1] == ")" and mark.text != ")":

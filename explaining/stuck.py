@@ -251,7 +251,6 @@ class Stuck:
         if self.form in ("call", "spawn", "add"):
             yield from self.other_list()
         if self.form in TALKING:
-            yield from (Try(edit, words) for edit, words in label_before(self))
             yield from (it for it in self.spent_before() if (self.reach(it) or 0) > self.text.size)
             yield from self.received_otherwise()
             yield from self.moved_here()
@@ -270,6 +269,8 @@ class Stuck:
             via, sent = self.tokens[self.index + 1 : self.index + 3]
             it = f"{sent.text} {via.text}"
             yield Try((via.at, sent.end, it), f"write `send {it}` in place of `send {via.text} {sent.text}`")
+        if self.form in TALKING:
+            yield from (Try(edit, words) for edit, words in label_before(self))
         if self.form == "close" and self.tokens[self.index - 1].text != "=":
             call = self.call_again()
             yield Try((token.at, token.end, call), f"write `{call}` in place of `close`")
@@ -876,9 +877,12 @@ class Stuck:
         found = found or list(self.taken_out())
         furthest = max((reached for reached, _ in found), default=0)
         self.is_whole = furthest > self.text.size
-        if self.is_whole and self.form in ("pay", "get", "put", "take") and all(
+        if self.form in ("pay", "get", "put", "take", "send") and all(
                 it.edit[0] < self.at for reached, it in found if reached == furthest):
-            found = [*((reached, it) for reached, it in self.taken_out() if reached == furthest), *found]
+            out = [(reached, it) for reached, it in self.taken_out() if reached >= furthest]
+            furthest = max([furthest, *(reached for reached, _ in out)])
+            self.is_whole = furthest > self.text.size
+            found = [*out, *found]
         return [it for reached, it in found if reached == furthest]
 
     def made(self):
