@@ -9,6 +9,8 @@ from .wordings import WRITING, Wordings
 AGAIN = ("loop", "repeat", "again", "continue", "restart", "recurse", "goto", "next", "self_call")
 LOOPS = ("while", "for", "loop", "repeat", "foreach")
 # The instructions that are written with a channel behind them.
+# What is computed of two numbers, by the sign between them.
+ADDED = {"+": int.__add__, "-": int.__sub__, "*": int.__mul__}
 WORDS = ("send", "recv", "put", "take", "wait", "pay", "get", "fwd", "acquire", "release")
 # What others write before a name, which says nothing here.
 MODIFIERS = ("mut", "ref", "const", "final", "var", "memory", "calldata", "storage", "immutable", "own", "public",
@@ -36,11 +38,30 @@ class Habits(Wordings):
     """What is found of the tokens around an offence, by the class that is made of this one."""
 
     def of_habits(self):
-        ways = (self.of_pairs, self.of_order, self.of_returns, self.of_terms, self.of_cases, self.of_kinds, self.of_calls)
+        ways = (self.of_several_labels, self.of_pairs, self.of_order, self.of_returns, self.of_terms, self.of_cases, self.of_kinds, self.of_calls)
         ways = (*ways, self.of_loops, self.of_braces, self.of_heard, self.of_tried, self.of_other_words,
                 self.of_bare, self.of_arrows, self.of_steps)
         for way in (self.of_wordings, self.of_chained, self.of_assigned, self.of_shapes, *ways):
             yield from way()
+
+    def of_several_labels(self):
+        """Several labels before one `=>`, as if a branch were for each of them; and a comma behind the last of a row."""
+        mark, before = self.marked, self.token(-1)
+        if mark.text in (")", "}", "]") and before.text == ",":
+            yield Slip("Syntax", "take this `,` out", (before.at, before.end, ""))
+        if mark.text not in (",", "|", "or") or self.wanted != {"=>"} or before.kind != "word":
+            return
+        labels, at = [before.text], self.index
+        while self.text_at(at) == mark.text and self.text_at(at + 1).isidentifier():
+            labels.append(self.text_at(at + 1))
+            at += 2
+        end = self.apart(at + 1, ("|", "}")) if self.text_at(at) == "=>" else None
+        if end is None or len(labels) < 2:
+            return
+        code = self.text.text[self.tokens[at + 1].at : self.tokens[end - 1].end]
+        new = " | ".join(f"{it} => {code}" for it in labels)
+        said = " and ".join(f"`{it} => ..`" for it in labels)
+        yield Slip("Syntax", f"write a branch for each label, {said}, with the same code", (before.at, self.tokens[end - 1].end, new))
 
     def of_pairs(self):
         """Several types in parentheses, as a pair is written in other languages: each is sent one behind the other."""
@@ -167,6 +188,12 @@ class Habits(Wordings):
         if mark.text == "." and word.text == "case" and self.token(1).kind == "word" and self.token(2).text == "{":
             new, old = f"{before.text}.{self.token(1).text}; case {before.text}", self.text.text[word.at : self.token(1).end]
             yield Slip("Syntax", f"write `{new}` in place of `{old}`", (word.at, self.token(1).end, new))
+        way = ADDED.get(mark.text)
+        if word.text == "{" and before.kind == self.token(1).kind == "number" and way and self.token(2).text == "}":
+            new = str(max(way(int(before.text[:9]), int(self.token(1).text[:9])), 0))
+            old = self.text.text[before.at : self.token(1).end]
+            words = f"write `{new}` in place of `{old}`, since an amount is one number"
+            yield Slip("Syntax", words, (before.at, self.token(1).end, new))
         if before.text == "{" and mark.kind == "word" and "*" in self.wanted and self.token(1).text == "}":
             words = f"write `*`, for which an amount is found, in place of `{mark.text}`: no amount of gas is read of a value"
             yield Slip("Syntax", words, (mark.at, mark.end, "*"))

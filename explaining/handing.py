@@ -3,6 +3,8 @@ contract does so, or deposits that come in for the other account."""
 from .mends import mend
 
 WORDS = ("transfer", "pay", "move", "send", "give", "hand", "transferFrom", "sendTransaction", "wire", "remit", "tip")
+# What stands between the names of accounts, or behind a number, and names nobody.
+FILLING = ("to", "from", "of", "by", "unit", "units", "gas", "coin", "coins", "exec", "the", "account")
 # How many pairs of transactions are tried.
 MOST_PAIRS = 8
 
@@ -14,8 +16,11 @@ class Handing:
         self.line, self.script, self.row = line, line.script, line.row
         words = [it.text for it in self.row.tokens]
         known = [it for it in line.senders() if it in words]
+        others = [it.text for it in self.row.tokens if it.kind == "word" and it.text not in (*known, *WORDS, *FILLING)
+                  and it.text[:-1] not in WORDS]
+        known += others if len(known) == len(others) == 1 else []
         numbers = [it for it in self.row.tokens if it.kind == "number"]
-        self.is_such = any(it in WORDS for it in words) or words[1:3] == ["-", ">"]
+        self.is_such = any(it in WORDS or it[:-1] in WORDS for it in words) or words[1:3] == ["-", ">"]
         self.is_such = self.is_such and len(known) in (1, 2) and len(numbers) == 1 and "[" not in words
         self.is_such = self.is_such and not (line.codes and set(words) & set(line.codes.processes))
         if self.is_such:

@@ -187,6 +187,12 @@ def others(names, at, other):
         call = f"{token.text}({joined(tokens[at + 2 : end])};)"
         said = f"write `spawn {words[1]} = {call}` in place of `let {words[1]} = {joined(tokens[at : end + 1])}`"
         yield (tokens[at - 3].at, tokens[end].end, f"spawn {words[1]} = {call}"), said
+    if other == "process" and names.used(at) == "function" and words[1:2] == ["put"]:
+        end = closing(tokens, at + 1)
+        call, name = f"{token.text}({joined(tokens[at + 2 : end])};)", fresh(names.text, token.text)
+        new = f"spawn {name} = {call}; send {words[2]} {name}"
+        old = joined(tokens[at - 2 : end + 1])
+        yield (tokens[at - 2].at, tokens[end].end, new), f"write `{new}` in place of `{old}`"
     if other == "function" and names.used(at) == "value":
         yield from given(names, at)
     yield from sent(names, at, other)
@@ -897,8 +903,10 @@ def of_unbound(names, at, program, grammar, moves_on):
     if early and not (other and other[1] not in (wanted, None) and names.leads(other[0], at)):
         return "Name scope", early
     told = needless(names, at, program) if other and other[1] == "channel" else []
-    told = told or worth(names, at, program, grammar) if other and other[1] == "channel" and wanted == "value" else []
     mends = told or mended(names, at, other and other[1], program)
+    is_sure = any(goes_through(program.check(names.text.edited(*it.tried))) for it in mends)
+    if not is_sure and other and other[1] == "channel" and wanted == "value":
+        mends = worth(names, at, program, grammar) or mends
     if mends:
         return ("Name other" if other else "Name unknown"), mends
     if other:

@@ -26,8 +26,13 @@ class Order:
         yield self.slip(f"write `{part.strip()}` behind the parameters", (mark.at, end.end, f"{parameters}{part}"))
 
     def of_gas(self):
-        """A potential in words, behind the parameters."""
+        """A potential in words, behind the parameters; or one before the name."""
         mark, behind = self.marked, self.token(1)
+        if mark.text == "{" and self.token(-2).text == "proc" and self.token(2).text == "}" and self.token(4).text == "(":
+            end = self.closing(4, "(", ")")
+            said = self.text.text[self.token(3).at : end.end]
+            new = f"{said} {{{behind.text}}}"
+            yield self.slip(f"write `{{{behind.text}}}` behind the parameters", (mark.at, end.end, new))
         if mark.kind == "word" and behind.kind == "number" and {"{", "="} <= self.wanted and self.token(-1).text == ")":
             said = self.text.text[mark.at : behind.end]
             new = f"{{{behind.text}}}"
