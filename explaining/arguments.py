@@ -314,8 +314,8 @@ class Arguments:
                 is_named = it.text.isidentifier() and not suits
                 makes = self.makers(wanted._replace(name=it.text)) if is_named and not self.of_account(it.text) else []
                 makes = [mend(f"write `{made.said}` on a line before", self.before(made)) for made in makes]
-                meant = self.refused.meant(it.tokens[0], nearest(it.text, suits)) or self.of_one(it.tokens[0], suits)
-                others = meant or self.of_type_name(it, wanted, suits)
+                meant = self.refused.meant(it.tokens[0], nearest(it.text, suits))
+                others = meant or self.of_type_name(it, wanted, suits) or self.of_one(it.tokens[0], suits)
                 lines = self.made_elsewhere(it.text) or others or [*makes, *self.of_account(it.text), see]
                 return it.tokens[0].at, "BadArguments name", lines
         for it, wanted in zip(self.names, self.wanted_names):

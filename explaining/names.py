@@ -906,7 +906,8 @@ def of_unbound(names, at, program, grammar, moves_on):
     mends = told or mended(names, at, other and other[1], program)
     is_sure = any(goes_through(program.check(names.text.edited(*it.tried))) for it in mends)
     if not is_sure and other and other[1] == "channel" and wanted == "value":
-        mends = worth(names, at, program, grammar) or mends
+        told = worth(names, at, program, grammar)
+        mends = [*told, seen(names, other, wanted)] if told else mends
     if mends:
         return ("Name other" if other else "Name unknown"), mends
     if other:
@@ -938,6 +939,12 @@ def bound_before(names, at, other, program, grammar, moves_on):
     return [] if does and found and "." in found[0].split("`")[1] else found
 
 
+def seen(names, other, wanted):
+    """Gives a line on what a name is, where something else is wanted."""
+    token, kind = names.tokens[other[0]], other[1]
+    return f"see: `{token.text}` is {said(kind)}, by {names.text.place(token.at)}, and {said(wanted)} is wanted here"
+
+
 def otherwise(names, at, other, program, grammar):
     """Gives the row and the lines for a name that is known as something else, or elsewhere."""
     text, token, wanted = names.text, names.tokens[at], names.used(at)
@@ -947,7 +954,7 @@ def otherwise(names, at, other, program, grammar):
         found = found or [*bound_here(names, at, program), *valued(names, at, program)]
         found = found or made(names, at, program, grammar)
         return "Name scope", [*found, f"see: `{token.text}` is bound at {place}"]
-    see = f"see: `{token.text}` is {said(kind)}, by {place}, and {said(wanted)} is wanted here"
+    see = seen(names, other, wanted)
     found = declared_ones(names, at, wanted, program) if wanted == "function" else []
     found = found or (applied(names, at, program) if wanted == "function" else [])
     found = found or (matched(names, at, program) if wanted == "list" else [])

@@ -82,8 +82,9 @@ class Line(Forms):
         if mark.text == "." and before.kind == "number" and before.end == mark.at and self.at(1).kind != "number":
             yield Slip((mark.at, mark.end, ""), "take `.` out")
         yield from self.of_asked()
-        yield from self.of_starts()
+        yield from self.of_two()
         yield from self.of_forms()
+        yield from self.of_starts()
         yield from self.of_spelling()
         if self.count and not self.is_part():
             yield from self.of_sides()
@@ -133,6 +134,16 @@ class Line(Forms):
             new = f"{self.tokens[-1].text} {mark.text if is_whole else in_digits(mark.text + behind.text)}"
             yield Slip((mark.at, self.row.end, new), f"write `deposit {new}`")
 
+    def of_two(self):
+        """The account before `new`, and a second transaction behind the first one of a line."""
+        mark, behind = self.marked, self.at(1)
+        if self.wanted == {"new"} and behind.text == "new" and mark.text in self.senders():
+            yield Slip((mark.at, behind.end, f"new {mark.text}"), f"write `new {mark.text}` in place of `{mark.text} new`")
+        if self.count and self.may_end and self.codes and self.tokens[0].text == "exec" and behind.text == "(" and \
+                mark.text in self.codes.processes and self.codes.processes[mark.text].mode == "T":
+            new = f"exec {self.tokens[1].text} "
+            yield Slip((mark.at, mark.at, f"\n{new}"), f"write `{new}{mark.text}(..)` on a line of its own")
+
     def of_asked(self):
         """A line that asks a contract for something by the name of a transaction: who pays runs it."""
         words, known = [it.text for it in self.tokens], self.script.accounts(self.row.number)
@@ -151,12 +162,6 @@ class Line(Forms):
         yield from self.of_deposit()
         if self.wanted == {"NAME"} and mark.text == ".":
             yield Slip((mark.at, mark.end, " "), "write a blank in place of `.`")
-        if self.wanted == {"new"} and behind.text == "new" and mark.text in self.senders():
-            yield Slip((mark.at, behind.end, f"new {mark.text}"), f"write `new {mark.text}` in place of `{mark.text} new`")
-        if self.count and self.may_end and self.codes and self.tokens[0].text == "exec" and behind.text == "(" and \
-                mark.text in self.codes.processes and self.codes.processes[mark.text].mode == "T":
-            new = f"exec {self.tokens[1].text} "
-            yield Slip((mark.at, mark.at, f"\n{new}"), f"write `{new}{mark.text}(..)` on a line of its own")
         if self.wanted == {"new"} and mark.text == "exec":
             said = self.script.text[self.row.at : mark.at].strip()
             if self.makes(self.at(2).text):
