@@ -825,6 +825,12 @@ class Habits(Wordings):
         elif self.begins_instruction():
             heads = [at for at, it in enumerate(self.tokens) if at > self.index and it.text in HEADS]
             last = self.tokens[heads[0] - 1] if heads else self.tokens[-1]
+            end = self.apart(self.index, ("|", "}"))
+            if self.opening(self.index) and end < len(self.tokens) and self.tokens[end].at < last.at:
+                inside = self.text.text[mark.at : self.tokens[end - 1].end]
+                mend = f"write `else {{` before `{mark.text}`, and `}}` behind the last instruction of this branch"
+                edit = (mark.at, self.tokens[end - 1].end, f"else {{ {inside} }}")
+                yield Slip("Syntax else", mend, edit)
             inside = self.text.text[mark.at : last.at]
             mend = f"write `else {{` before `{mark.text}`, and `}}` behind the last instruction"
             yield Slip("Syntax else", mend, (mark.at, last.at, f"else {{ {inside} }}"))

@@ -26,6 +26,11 @@ def tries(text, at):
     """Gives edits, each with what it is in words."""
     token = text.tokens[at]
     yield from turned(text, at)
+    rows = [it for it in range(len(text.tokens) - 2) if text.tokens[it].text == "type"]
+    names = [text.tokens[it + 2].text for it in rows][:MOST]
+    if token.text in names:
+        for name in (it for it in names if it != token.text):
+            yield (token.at, token.end, name), f"write `{name}` in place of `{token.text}`"
     if token.kind == "word" or token.text in "&+1":
         for word in ("down", "up"):
             yield (token.at, token.at, f"{word} "), f"write `{word}` before `{token.text}`"
