@@ -107,7 +107,8 @@ class Answers:
                 fits = [name for name, has in rest.items() if self.said(has) == one.type]
                 given += fits[:1]
                 rest.pop(fits[0] if fits else "", None)
-            if it.mode != self.process.mode or rest or not len(given) == len(channels) == len(it.parameters) - len(kinds):
+            is_whole = not rest and len(given) == len(channels) == len(it.parameters) - len(kinds)
+            if it.mode != self.process.mode or not is_whole:
                 continue
             values = [one.name if one.name in self.values else VALUES.get(one.type, one.type.replace("list", "nil", 1))
                       for one in kinds]

@@ -38,14 +38,14 @@ class Habits(Wordings):
     """What is found of the tokens around an offence, by the class that is made of this one."""
 
     def of_habits(self):
-        ways = (self.of_several_labels, self.of_pairs, self.of_order, self.of_returns, self.of_terms, self.of_cases, self.of_kinds, self.of_calls)
-        ways = (*ways, self.of_loops, self.of_braces, self.of_heard, self.of_tried, self.of_other_words,
-                self.of_bare, self.of_arrows, self.of_steps)
+        ways = (self.of_several_labels, self.of_pairs, self.of_order, self.of_returns, self.of_terms, self.of_cases)
+        ways = (*ways, self.of_kinds, self.of_calls, self.of_loops, self.of_braces, self.of_heard, self.of_tried)
+        ways = (*ways, self.of_other_words, self.of_bare, self.of_arrows, self.of_steps)
         for way in (self.of_wordings, self.of_chained, self.of_assigned, self.of_shapes, *ways):
             yield from way()
 
     def of_several_labels(self):
-        """Several labels before one `=>`, as if a branch were for each of them; and a comma behind the last of a row."""
+        """Several labels before one `=>`, as if the branch were for each of them; a comma behind the last of a row."""
         mark, before = self.marked, self.token(-1)
         if mark.text in (")", "}", "]") and before.text == ",":
             yield Slip("Syntax", "take this `,` out", (before.at, before.end, ""))
@@ -61,13 +61,15 @@ class Habits(Wordings):
         code = self.text.text[self.tokens[at + 1].at : self.tokens[end - 1].end]
         new = " | ".join(f"{it} => {code}" for it in labels)
         said = " and ".join(f"`{it} => ..`" for it in labels)
-        yield Slip("Syntax", f"write a branch for each label, {said}, with the same code", (before.at, self.tokens[end - 1].end, new))
+        edit = (before.at, self.tokens[end - 1].end, new)
+        yield Slip("Syntax", f"write a branch for each label, {said}, with the same code", edit)
 
     def of_pairs(self):
         """Several types in parentheses, as a pair is written in other languages: each is sent one behind the other."""
         mark = self.marked
         opening = next((at for at in range(self.index - 1, 0, -1) if self.tokens[at].text in ("(", "{", ";")), 0)
-        if mark.text != "," or self.tokens[opening].text != "(" or self.tokens[0].text != "type" or ")" not in self.wanted:
+        is_type = self.tokens[opening].text == "(" and self.tokens[0].text == "type"
+        if mark.text != "," or not is_type or ")" not in self.wanted:
             return
         end = self.closing(opening - self.index, "(", ")")
         parts = self.text.text[self.tokens[opening].end : end.at].split(",")
@@ -186,7 +188,8 @@ class Habits(Wordings):
         if mark.text in (";", "}", "|") and before.text == "emit" and self.wants("term"):
             yield Slip("Syntax", "write `emit ..`, with a value", (before.end, before.end, " 0"))
         if mark.text == "." and word.text == "case" and self.token(1).kind == "word" and self.token(2).text == "{":
-            new, old = f"{before.text}.{self.token(1).text}; case {before.text}", self.text.text[word.at : self.token(1).end]
+            old = self.text.text[word.at : self.token(1).end]
+            new = f"{before.text}.{self.token(1).text}; case {before.text}"
             yield Slip("Syntax", f"write `{new}` in place of `{old}`", (word.at, self.token(1).end, new))
         way = ADDED.get(mark.text)
         if word.text == "{" and before.kind == self.token(1).kind == "number" and way and self.token(2).text == "}":
@@ -195,8 +198,8 @@ class Habits(Wordings):
             words = f"write `{new}` in place of `{old}`, since an amount is one number"
             yield Slip("Syntax", words, (before.at, self.token(1).end, new))
         if before.text == "{" and mark.kind == "word" and "*" in self.wanted and self.token(1).text == "}":
-            words = f"write `*`, for which an amount is found, in place of `{mark.text}`: no amount of gas is read of a value"
-            yield Slip("Syntax", words, (mark.at, mark.end, "*"))
+            words = f"write `*`, for which an amount is found, in place of `{mark.text}`"
+            yield Slip("Syntax", f"{words}: no amount of gas is read of a value", (mark.at, mark.end, "*"))
         if word.text == "send" and (mark.text in ("me", "true", "false", "nil") or mark.kind == "number"):
             new, old = f"put {before.text}", f"send {before.text} {mark.text}"
             words = f"write `{new} {mark.text}` in place of `{old}`, since it is a value"

@@ -24,7 +24,9 @@ class Handing:
         self.is_such = self.is_such and len(known) in (1, 2) and len(numbers) == 1 and "[" not in words
         self.is_such = self.is_such and not (line.codes and set(words) & set(line.codes.processes))
         if self.is_such:
-            self.giver, self.getter = self.sides(words, sorted(known, key=words.index)) if known[1:] else (None, known[0])
+            self.giver, self.getter = None, known[0]
+            if known[1:]:
+                self.giver, self.getter = self.sides(words, sorted(known, key=words.index))
             self.units = int(numbers[0].text)
 
     def sides(self, words, known):
@@ -41,7 +43,8 @@ class Handing:
     def paid_out(self):
         """Gives a line for a transaction that gets as much from a contract, for who is to be paid."""
         codes = self.line.codes
-        names = [it.name for it in codes.processes.values() if it.mode == "T" and self.moved(it) == self.units] if codes else []
+        processes = codes.processes.values() if codes else ()
+        names = [it.name for it in processes if it.mode == "T" and self.moved(it) == self.units]
         for row in (self.called(name, self.getter) for name in names[:MOST_PAIRS]):
             edit = (self.row.at, self.row.end, row)
             answer = self.line.program.run(codes.text.data, self.upto(edit), seconds=5) if row else None
@@ -79,8 +82,8 @@ class Handing:
         return int(amounts[0]) * (1 if "get" in found else -1)
 
     def called(self, name, who):
-        """Gives the line by which an account runs a transaction on contracts that were made before; nothing where values
-        are wanted."""
+        """Gives the line by which an account runs a transaction on contracts that were made before; nothing where
+        values are wanted."""
         codes, given = self.line.codes, []
         rows = [it for it in self.script.rows[: self.row.number - 1] if it.word == "let" and len(it.tokens) > 5]
         made = {it.tokens[1].text: codes.processes.get(it.process.text) for it in rows}
@@ -96,8 +99,8 @@ class Handing:
         return self.script.part(self.row.number, *edits)
 
     def by_deposit(self):
-        """Gives a line for a deposit of as much less for the one, and one for the other in the place of this line, where
-        what stands before it ends as it did."""
+        """Gives a line for a deposit of as much less for the one, and one for the other in the place of this line,
+        where what stands before it ends as it did."""
         rows = [it for it in self.script.rows[: self.row.number - 1] if it.word == "deposit" and len(it.tokens) == 3
                 and it.tokens[1].text == self.giver and int(it.tokens[2].text) >= self.units]
         for row in rows[::-1]:

@@ -22,8 +22,8 @@ class Lists:
     """What is found of the tokens around an offence, by the class that is made of this one."""
 
     def of_all_lists(self):
-        ways = (self.of_amounts, self.of_list_kinds, self.of_puts, self.of_put_into, self.of_patterns, self.of_operators)
-        ways = (*ways, self.of_elements)
+        ways = (self.of_amounts, self.of_list_kinds, self.of_puts, self.of_put_into, self.of_patterns)
+        ways = (*ways, self.of_operators, self.of_elements)
         for way in (*ways, self.of_goings):
             yield from way()
 

@@ -178,15 +178,21 @@ def others(names, at, other):
         yield (tokens[start].at, token.end, f"list {term}, {token.text}"), said
     if other == "function" and names.used(at) == "process" and words[2:3] == ["call"]:
         yield from called(names, at)
-    heads = [before for before in range(at, -1, -1) if tokens[before].text == "proc"]
-    is_offered = bool(heads) and tokens[heads[0] + 1].text != "T"
-    if other in (None, "value") and names.used(at) == "channel" and is_offered:
+    modes = [tokens[before + 1].text for before in range(at, -1, -1) if tokens[before].text == "proc"]
+    if other in (None, "value") and names.used(at) == "channel" and modes[:1] not in ([], ["T"]):
         yield (token.at, token.end, "self"), f"write `self` in place of `{token.text}`"
     if other == "process" and names.used(at) == "function" and (words[0:1], words[2:3]) == (["let"], ["="]):
         end = closing(tokens, at + 1)
         call = f"{token.text}({joined(tokens[at + 2 : end])};)"
         said = f"write `spawn {words[1]} = {call}` in place of `let {words[1]} = {joined(tokens[at : end + 1])}`"
         yield (tokens[at - 3].at, tokens[end].end, f"spawn {words[1]} = {call}"), said
+    yield from of_functions(names, at, other, words)
+    yield from sent(names, at, other)
+
+
+def of_functions(names, at, other, words):
+    """Gives such edits where a process or a function stands for a value, or one for the other."""
+    tokens, token = names.tokens, names.tokens[at]
     if other == "process" and names.used(at) == "function" and words[1:2] == ["put"]:
         end = closing(tokens, at + 1)
         call, name = f"{token.text}({joined(tokens[at + 2 : end])};)", fresh(names.text, token.text)
@@ -195,7 +201,6 @@ def others(names, at, other):
         yield (tokens[at - 2].at, tokens[end].end, new), f"write `{new}` in place of `{old}`"
     if other == "function" and names.used(at) == "value":
         yield from given(names, at)
-    yield from sent(names, at, other)
 
 
 def given(names, at):
@@ -311,7 +316,8 @@ def started(names, at, program):
     is_talk = tokens[start].text in ("case", "take", "recv", "put", "send", "wait") and at == start + 1 or at == start
     if names.used(at) != "channel" or head is None or not is_talk or token.text == "self":
         return []
-    end = next((place for place in range(head + 1, len(tokens)) if tokens[place].text in ("proc", "fn", "type")), len(tokens))
+    heads = (place for place in range(head + 1, len(tokens)) if tokens[place].text in ("proc", "fn", "type"))
+    end = next(heads, len(tokens))
     known = {tokens[place + 3].text for place in range(head, end - 3) if tokens[place].text == "spawn"}
     if any(names.declared(place) == "channel" and tokens[place].text == token.text for place in range(head, end)):
         return []
@@ -351,18 +357,20 @@ def matched(names, at, program):
     if bar is None or [it.text for it in tokens[bar + 2 : bar + 5 : 2]] != ["::", "=>"]:
         return []
     first, rest = tokens[bar + 1].text, tokens[bar + 3].text
-    codes = [names.text.text[tokens[one].at : tokens[other].end] for one, other in ((at + 4, bar - 1), (bar + 5, end - 1))]
+    spans = (at + 4, bar - 1), (bar + 5, end - 1)
+    codes = [names.text.text[tokens[one].at : tokens[other].end] for one, other in spans]
     h, t = fresh(names.text, first), fresh(names.text, rest)
     for kind, zero in (("int", "0"), ("bool", "false")):
         lets = [(first, f"nil => {zero}", h), (rest, f"nil => nil {kind}", t)]
         used = {it.text for it in tokens[bar + 5 : end]}
-        code = "".join(f"let {it} = match {name} {{ {none} | {h} :: {t} => {one} }}; " for it, none, one in lets if it in used)
+        code = "".join(f"let {it} = match {name} {{ {none} | {h} :: {t} => {one} }}; "
+                       for it, none, one in lets if it in used)
         new = f"if (match {name} {{ nil => true | {h} :: {t} => false }}) {{ {codes[0]} }} else {{ {code}{codes[1]} }}"
         edit = (tokens[at - 1].at, tokens[end].end, new)
         if goes_through(program.check(names.text.edited(edit))):
             test = new[: new.index(") {") + 1]
-            words = f"write `{test} {{ .. }} else {{ {code}.. }}` in place of this `match`, with the same two codes: a list"
-            line = mend(f"{words} that is a value is matched in a term", edit)
+            words = f"write `{test} {{ .. }} else {{ {code}.. }}` in place of this `match`, with the same two codes"
+            line = mend(f"{words}: a list that is a value is matched in a term", edit)
             line.edits = (edit,)
             return [line]
     return []
@@ -416,8 +424,8 @@ def own_number(names, at, program):
 
 
 def turned(names, at, program):
-    """Gives a line for a name that is sent and bound nowhere, where all is accepted once it is received instead; and for
-    one that is received and known already, where it is sent instead."""
+    """Gives a line for a name that is sent and bound nowhere, where all is accepted once it is received instead; and
+    for one that is received and known already, where it is sent instead."""
     word, behind = names.tokens[at - 2], names.tokens[at + 1 : at + 2]
     ways = {("put", "value"): "take", ("send", "channel"): "recv", ("take", None): "put", ("recv", None): "send"}
     new = ways.get((word.text, names.used(at)))
@@ -430,7 +438,7 @@ def turned(names, at, program):
 
 
 def computed(names, at, program):
-    """Gives a line for a value that is bound nowhere, by a `let` before the instruction: what it is the writer knows."""
+    """Gives a line for a value that is bound nowhere, by a `let` before the instruction, of what the writer knows."""
     tokens, token = names.tokens, names.tokens[at]
     start = next((place for place in range(at, 0, -1) if tokens[place - 1].text in (";", "=>", "=", "{", "else")), 0)
     if names.used(at) != "value" or names.leaves[start].rule not in ("step", "last", "chan"):
@@ -754,7 +762,8 @@ def made(names, at, program, grammar):
         return []
     types, step, held = stand(names, at, grammar)
     via, wanted = tokens[at - 1].text, handed(names, at, types, step)
-    whole = types.unfolded(held[via].type) if step is not None and tokens[at - 2].text == "send" and via in held else None
+    is_sent = step is not None and tokens[at - 2].text == "send" and via in held
+    whole = types.unfolded(held[via].type) if is_sent else None
     if whole is not None and whole.sign == ("*" if via == "self" else "-o"):
         wanted = types.said(*whole.parts[0][:2])
     if wanted is None:

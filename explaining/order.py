@@ -28,7 +28,8 @@ class Order:
     def of_gas(self):
         """A potential in words, behind the parameters; or one before the name."""
         mark, behind = self.marked, self.token(1)
-        if mark.text == "{" and self.token(-2).text == "proc" and self.token(2).text == "}" and self.token(4).text == "(":
+        signs = [self.token(at).text for at in (-2, 0, 2, 4)]
+        if signs == ["proc", "{", "}", "("]:
             end = self.closing(4, "(", ")")
             said = self.text.text[self.token(3).at : end.end]
             new = f"{said} {{{behind.text}}}"

@@ -138,7 +138,8 @@ class Line(Forms):
         """The account before `new`, and a second transaction behind the first one of a line."""
         mark, behind = self.marked, self.at(1)
         if self.wanted == {"new"} and behind.text == "new" and mark.text in self.senders():
-            yield Slip((mark.at, behind.end, f"new {mark.text}"), f"write `new {mark.text}` in place of `{mark.text} new`")
+            new = f"new {mark.text}"
+            yield Slip((mark.at, behind.end, new), f"write `{new}` in place of `{mark.text} new`")
         if self.count and self.may_end and self.codes and self.tokens[0].text == "exec" and behind.text == "(" and \
                 mark.text in self.codes.processes and self.codes.processes[mark.text].mode == "T":
             new = f"exec {self.tokens[1].text} "
@@ -158,7 +159,8 @@ class Line(Forms):
         """Slips at the start of a line: what is left out there, or stands in another order."""
         mark, behind = self.marked, self.at(1)
         if len(self.tokens) == 1 and self.tokens[0].text in ("exec", "let", "deposit"):
-            yield Slip((self.row.at, self.row.end, ""), "take this line out, since nothing stands behind its first word")
+            words = "take this line out, since nothing stands behind its first word"
+            yield Slip((self.row.at, self.row.end, ""), words)
         yield from self.of_deposit()
         if self.wanted == {"NAME"} and mark.text == ".":
             yield Slip((mark.at, mark.end, " "), "write a blank in place of `.`")

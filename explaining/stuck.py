@@ -117,7 +117,8 @@ class Stuck:
                 for known, behind in self.fillings(row["write"], name, whole):
                     known = {"channel": name, "new": new, **known}
                     is_bound = known.get("value") in self.values
-                    open_ones = dict.fromkeys({"new", *([] if is_bound else ["value"])} & known.keys(), DATA["left_open"])
+                    left = {"new", *([] if is_bound else ["value"])}
+                    open_ones = dict.fromkeys(left & known.keys(), DATA["left_open"])
                     said = filled(row["write"], **{**known, **open_ones})
                     yield filled(row["write"], **known), said, behind if "goes_on" in row else None
 
@@ -241,6 +242,11 @@ class Stuck:
             yield from self.dual()
         if self.form in ("put", "send", "take", "recv"):
             yield from self.paid_instead()
+        yield from self.others_near()
+
+    def others_near(self):
+        """Gives more of these: what is said or done before or behind the stuck instruction."""
+        token = self.tokens[self.index]
         if self.form == "put":
             yield from self.made_of()
         if self.form in TALKING:
@@ -341,8 +347,8 @@ class Stuck:
                 yield from self.cased(name, whole, code, self.tokens[end - 1].end)
 
     def cased(self, name, whole, code, end):
-        """Gives a `case` on a channel, with what stands from here on in each branch, or in some of them, where the others
-        end in their own way."""
+        """Gives a `case` on a channel, with what stands from here on in each branch, or in some of them, where the
+        others end in their own way."""
         types, step, held = self.reached
         ways = Answers(types, held, self.new, self.process(), self.values)
         last = self.call_again() if self.tokens[self.head + 1].text in ("S", "L") else "close"
@@ -912,7 +918,8 @@ class Stuck:
 
     def kinds_elsewhere(self):
         """Gives lines on another kind of values in a type or in a head, where the contract is accepted with it."""
-        kinds = [at for at, it in enumerate(self.tokens) if it.text in OTHER_KIND and self.names.leaves[at].rule == "vtype"
+        kinds = [at for at, it in enumerate(self.tokens)
+                 if it.text in OTHER_KIND and self.names.leaves[at].rule == "vtype"
                  and self.tokens[at - 1].text not in ("nil", "list")]
         kinds.sort(key=lambda at: abs(at - self.index))
         lines = []

@@ -119,7 +119,8 @@ def other_called(stuck, modes):
     at = stuck.index + (1 if stuck.form == "call" else 3)
     token, start, end = stuck.tokens[at], at + 2, closing(stuck.tokens, at + 1)
     sign = next((at for at in range(start, end) if stuck.tokens[at].text == ";"), end)
-    counts = [len(list(separated(stuck.tokens, *side))) for side in ((start, sign), (sign + 1, end)) if side[0] <= side[1]]
+    sides = (start, sign), (sign + 1, end)
+    counts = [len(list(separated(stuck.tokens, *side))) for side in sides if side[0] <= side[1]]
     for it in types.processes.values():
         channels = len(it.of_kind("channel"))
         is_endless = it.name == own.name and (stuck.form == "spawn" or it.mode == "T" or it.mode == "R" and is_silent)
@@ -129,7 +130,7 @@ def other_called(stuck, modes):
 
 
 def label_before(stuck):
-    """Gives edits for another label, of the same choice, that was sent just before on the channel of the instruction."""
+    """Gives edits for another label of the same choice, where one was sent just before on the same channel."""
     types, step, held = stuck.reached
     at = stuck.index if stuck.form == "label" else stuck.index + 1
     name = stuck.tokens[at].text
@@ -138,14 +139,14 @@ def label_before(stuck):
         return
     token, rows = stuck.tokens[stuck.index - 2], stuck.way()
     at = next((known for before, known in rows if before.at == stuck.index - 4), {}).get(name)
-    whole = types.unfolded(at.type) if at else None
+    whole, place = types.unfolded(at.type) if at else None, types.text.place(token.at)
     for label, _ in whole.parts if whole and whole.sign in ("+", "&") else ():
         if label != token.text:
-            yield (token.at, token.end, label), f"write `{label}` in place of `{token.text}` at {types.text.place(token.at)}"
+            yield (token.at, token.end, label), f"write `{label}` in place of `{token.text}` at {place}"
 
 
 def other_made(stuck):
-    """Gives edits for another process in the `spawn` of a channel that is passed on in a `call`, with as many values."""
+    """Gives edits for another process, with as many values, in the `spawn` of a channel that a `call` passes on."""
     types, _, held = stuck.reached
     given = [it.text for it in stuck.tokens[stuck.index : stuck.behind()] if it.text in held]
     for name in dict.fromkeys(given):

@@ -95,8 +95,8 @@ class Told:
         return answer, read(kept), None
 
     def at_once(self, policy):
-        """Runs the script by a policy, and has it be told meanwhile, with fewer firings of a batch. Keeps the answer, and
-        gives the tale, with the firings that it has not by the line of each batch that ran into its limit; nothing
+        """Runs the script by a policy, and has it be told meanwhile, with fewer firings of a batch. Keeps the answer,
+        and gives the tale, with the firings that it has not by the line of each batch that ran into its limit; nothing
         where a batch that is kept made more, or where the program does not replay what is told."""
         limit = min(int(self.options.get("--steps", shortened.MOST)), shortened.MOST)
         with self.program.begin("run", *self.files, "--policy", policy, *self.steps()) as run:
