@@ -1,10 +1,12 @@
-//! Tests: texts that were changed at one place are refused, or loaded and saved as they are, as often as an independent
-//! program answers so of the same texts.
+//! Tests: texts that were changed at any byte, or at numbers alone, are refused, or loaded and saved as they are, as
+//! often as an independent program answers so of the same texts.
 ghost use Rattle.std.specs.Prelude.{◌<◌, ◌≤◌, vec_len};
 
 use crate::accepted::accepted_of;
 use crate::answer::{Answer, answer_of};
-use crate::contracts::{AUCTION, AUCTION_BIDDEN, BOX, BOX_BEGIN};
+use crate::contracts::{
+    AUCTION, AUCTION_BIDDEN, BOX, BOX_LEDGER, CROSSED_LEDGER, CROSSING, GIFT, GIFT_LEDGER,
+};
 use nomos_types::accepted::Accepted;
 use std::alloc::{AllocError, Global};
 use std::process::Abort;
@@ -62,6 +64,72 @@ fn change(text: &mut Vec<u8>, dice: &mut Dice) -> Result<(), AllocError>
     Ok(())
 }
 
+// The first digit from a place on that stands behind the second blank of its line. No order hangs on such a digit.
+fn free_digit(text: &[u8], from: usize) -> Option<usize> {
+    let mut blanks: usize = 0;
+    for (place, byte) in text.iter().enumerate() {
+        match *byte {
+            b'\n' => blanks = 0,
+            b' ' => blanks = blanks.saturating_add(1),
+            other => {
+                if place >= from && blanks > 1 && other.is_ascii_digit() {
+                    return Some(place);
+                }
+            }
+        }
+    }
+    None
+}
+
+// Another digit.
+fn other_digit(dice: &mut Dice, old: u8) -> u8 {
+    let more = dice.roll(9) as u8;
+    let digit = old.wrapping_sub(b'0').wrapping_add(more).wrapping_add(1) % 10;
+    digit.wrapping_add(b'0')
+}
+
+// Puts a byte at a place of a text.
+fn put(text: &mut [u8], place: usize, byte: u8) {
+    if let Some(old) = text.get_mut(place) {
+        *old = byte;
+    }
+}
+
+// Puts another digit in the place of one, or lets two that differ change places.
+fn exchange(text: &mut [u8], places: (usize, usize), dice: &mut Dice) {
+    let (Some(first), Some(second)) = (text.get(places.0).copied(), text.get(places.1).copied())
+    else {
+        return;
+    };
+    if first == second || dice.roll(2) == 0 {
+        put(text, places.0, other_digit(dice, first));
+    } else {
+        put(text, places.0, second);
+        put(text, places.1, first);
+    }
+}
+
+// Changes numbers of a text on which no order hangs.
+fn change_numbers(text: &mut Vec<u8>, dice: &mut Dice)
+    requires { 0 < vec_len text.old }
+{
+    let from = dice.roll(text.len());
+    let to = dice.roll(text.len());
+    if let Some(first) = free_digit(text, from) {
+        if let Some(second) = free_digit(text, to) {
+            exchange(text, (first, second), dice);
+        }
+    }
+}
+
+/// How a text is changed.
+#[derive(Clone, Copy, PartialEq, Eq, Debug)]
+enum Way {
+    Anywhere,
+    /// Where mostly its form stays.
+    AtNumbers,
+}
+
 /// How often what was answered.
 #[derive(Clone, Copy, PartialEq, Eq, Debug)]
 struct Counts {
@@ -93,61 +161,156 @@ impl Counts {
     }
 }
 
+// A text that was changed.
+fn changed(alloc: Global, text: &str, way: Way, dice: &mut Dice) -> Result<Vec<u8>, AllocError> {
+    let mut changed = text.as_bytes().to_vec(alloc)?;
+    if changed.len() > 0 {
+        match way {
+            Way::Anywhere => change(&mut changed, dice)?,
+            Way::AtNumbers => change_numbers(&mut changed, dice),
+        }
+    }
+    Ok(changed)
+}
+
 // What is answered of a text that was changed.
 fn changed_answer(
     alloc: Global,
     accepted: &Accepted,
     text: &str,
+    way: Way,
     dice: &mut Dice,
 ) -> Result<Answer, AllocError> {
-    let mut changed = text.as_bytes().to_vec(alloc)?;
-    if changed.len() > 0 {
-        change(&mut changed, dice)?;
-    }
+    let changed = changed(alloc, text, way, dice)?;
     answer_of(alloc, accepted, changed.as_slice())
 }
 
 // What is answered of so many changes of a text.
-fn counts_of<R: Abort + AllocGlobal>(
-    rt: &R,
-    contract: &str,
+fn counts_on(
+    alloc: Global,
+    accepted: &Accepted,
     text: &str,
+    way: Way,
     times: u32,
 ) -> Result<Counts, AllocError> {
-    let accepted = accepted_of(rt, contract);
     let mut dice = Dice { state: 70 };
     let mut counts = NONE;
     for _ in 0..times {
-        counts.note(changed_answer(rt.alloc(), &accepted, text, &mut dice)?);
+        counts.note(changed_answer(alloc, accepted, text, way, &mut dice)?);
     }
     Ok(counts)
 }
 
-#[test]
-fn changed_auctions(rt: HostRuntime) -> Result<(), Fail> {
-    let counts = counts_of(&rt, AUCTION, AUCTION_BIDDEN, 2000)?;
-    let wanted = Counts {
-        loaded: 154,
-        bad_line: 1721,
-        not_typed: 123,
-        not_quiet: 2,
-        others: 0,
-    };
-    assert!(rt; counts == wanted);
+// The same, where the contract is a text.
+fn counts_of<R: Abort + AllocGlobal>(
+    rt: &R,
+    texts: (&str, &str),
+    way: Way,
+    times: u32,
+) -> Result<Counts, AllocError> {
+    let accepted = accepted_of(rt, texts.0);
+    counts_on(rt.alloc(), &accepted, texts.1, way, times)
+}
+
+/// A contract, a ledger of it, how often it is changed, and what is then answered.
+type Case = (&'static str, &'static str, u32, Counts);
+
+/// Ledgers that are changed at any byte.
+const ANYWHERE: [Case; 2] = [
+    (
+        AUCTION,
+        AUCTION_BIDDEN,
+        1000,
+        Counts {
+            loaded: 69,
+            bad_line: 873,
+            not_typed: 56,
+            not_quiet: 2,
+            others: 0,
+        },
+    ),
+    (
+        BOX,
+        BOX_LEDGER,
+        1000,
+        Counts {
+            loaded: 89,
+            bad_line: 862,
+            not_typed: 48,
+            not_quiet: 1,
+            others: 0,
+        },
+    ),
+];
+
+/// Ledgers of which numbers are changed.
+const AT_NUMBERS: [Case; 4] = [
+    (
+        AUCTION,
+        AUCTION_BIDDEN,
+        1200,
+        Counts {
+            loaded: 389,
+            bad_line: 216,
+            not_typed: 581,
+            not_quiet: 14,
+            others: 0,
+        },
+    ),
+    (
+        GIFT,
+        GIFT_LEDGER,
+        800,
+        Counts {
+            loaded: 86,
+            bad_line: 153,
+            not_typed: 561,
+            not_quiet: 0,
+            others: 0,
+        },
+    ),
+    (
+        CROSSING,
+        CROSSED_LEDGER,
+        600,
+        Counts {
+            loaded: 134,
+            bad_line: 115,
+            not_typed: 342,
+            not_quiet: 9,
+            others: 0,
+        },
+    ),
+    (
+        BOX,
+        BOX_LEDGER,
+        600,
+        Counts {
+            loaded: 242,
+            bad_line: 17,
+            not_typed: 328,
+            not_quiet: 13,
+            others: 0,
+        },
+    ),
+];
+
+// Asserts what is answered of ledgers that are changed so.
+fn assert_counts<R: Abort + AllocGlobal>(rt: &R, way: Way, cases: &[Case]) -> Result<(), Fail> {
+    for case in cases {
+        let (contract, ledger, times, wanted) = *case;
+        let counts = counts_of(rt, (contract, ledger), way, times)?;
+        assert!(rt; counts == wanted, "{ledger}");
+    }
     Ok(())
 }
 
 #[test]
-fn changed_boxes(rt: HostRuntime) -> Result<(), Fail> {
-    let text = format!(in rt.alloc(); "{BOX_BEGIN}list 0 2 [7,5]\n")?;
-    let counts = counts_of(&rt, BOX, text.as_str(), 2000)?;
-    let wanted = Counts {
-        loaded: 165,
-        bad_line: 1729,
-        not_typed: 105,
-        not_quiet: 1,
-        others: 0,
-    };
-    assert!(rt; counts == wanted);
-    Ok(())
+fn ledgers_changed_anywhere(rt: HostRuntime) -> Result<(), Fail> {
+    assert_counts(&rt, Way::Anywhere, &ANYWHERE)
+}
+
+#[test]
+fn ledgers_changed_at_numbers(rt: HostRuntime) -> Result<(), Fail> {
+    assert_counts(&rt, Way::AtNumbers, &AT_NUMBERS)
 }

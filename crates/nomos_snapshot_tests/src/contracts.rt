@@ -76,6 +76,18 @@ name 1 6
 process 1 S 5 offers 1 base - purse 4 payer 0
 ";
 
+/// That ledger, with its list.
+pub(crate) const BOX_LEDGER: &str = "nomos-ledger 1
+unit 1
+next 8 10
+spent 0
+account u 6
+contract b 1
+name 1 6
+process 1 S 5 offers 1 base - purse 4 payer 0
+list 0 2 [7,5]
+";
+
 /// An auction of coins, which are kept in wallets.
 pub(crate) const AUCTION: &str = "type R coin = &{ value : int /\\ coin | melt : 1 };
 type S wallet = up &{ store : coin -o down wallet | total : int /\\ down wallet };
@@ -157,4 +169,107 @@ chan 4 28
 chan 5 2
 process 13 R 3 offers 28 base - purse 0 payer 1
 value 0 7
+";
+
+/// A contract that keeps a gift, which comes as messages of each kind that goes to a client.
+pub(crate) const GIFT: &str = "type R coin = &{ melt : 1 };
+type R gift = int /\\ list bool /\\ |{2}> +{ last : coin * 1 | more : gift };
+type S box = up int -> down box;
+proc R mint(;) : coin = case self { melt => close };
+proc R given(n: int;) {2} : gift =
+  put self n; put self (n < 3) :: nil bool; pay self {2}; self.last; spawn c = mint(;); send self c; close;
+proc S hold(n: int; g: gift) : box = accept; take self m; detach; call hold(n + m; g);
+proc S make(n: int;) {2} : box = spawn g = given(n;); call hold(n; g);
+";
+
+/// A ledger with two of these, each with its gift.
+pub(crate) const GIFT_LEDGER: &str = "nomos-ledger 1
+unit 1
+next 19 17
+spent 0
+account ann 7
+account bob 1
+contract one 1
+contract two 9
+name 1 18
+name 2 15
+name 3 8
+name 4 7
+name 5 6
+name 6 4
+name 7 14
+name 8 3
+name 9 18
+name 10 15
+name 11 8
+name 12 7
+name 13 6
+name 14 4
+name 15 14
+name 16 3
+process 1 S 12 offers 1 base - purse 0 payer 0
+value 0 7
+chan 2 2
+message 3 client 2 3 value 7 purse 0
+message 4 client 3 4 value [false] purse 0
+message 5 client 4 5 pay purse 2
+message 6 client 5 6 label last purse 0
+process 7 R 1 offers 7 base - purse 0 payer 0
+message 8 client 6 8 channel 7 purse 0
+message 9 client 8 - close purse 0
+process 10 S 12 offers 9 base - purse 0 payer 1
+value 0 2
+chan 2 10
+message 12 client 10 11 value 2 purse 0
+message 13 client 11 12 value [true] purse 0
+message 14 client 12 13 pay purse 2
+message 15 client 13 14 label last purse 0
+process 16 R 1 offers 15 base - purse 0 payer 1
+message 17 client 14 16 channel 15 purse 0
+message 18 client 16 - close purse 0
+";
+
+/// A contract that acquires two others, while its own talk goes on.
+pub(crate) const CROSSING: &str =
+    "type S cell = up &{ go : int -> int -> down cell | stop : down cell };
+proc S c(; p: cell, q: cell) : cell =
+  accept; case self { go => take self n; acquire p as x; x.go; put x n; put x n + 1;
+    acquire q as y; y.stop; release y as r; take self m; release x as s; detach; call c(; s, r)
+  | stop => detach; call c(; p, q) };
+proc S d(;) : cell =
+  accept; case self { go => take self n; take self m; detach; call d(;) | stop => detach; call d(;) };
+";
+
+/// A ledger in which two of them hold each other, each with a value that waits for it.
+pub(crate) const CROSSED_LEDGER: &str = "nomos-ledger 1
+unit 1
+next 17 22
+spent 0
+account ann 10
+contract d1 1
+contract d2 2
+contract c1 3
+contract c2 4
+name 1 11
+name 2 11
+name 3 10
+name 4 10
+name 8 2
+name 9 2
+name 12 1
+name 13 1
+process 1 S 23 offers 1 base - purse 0 payer 0
+process 2 S 23 offers 2 base - purse 0 payer 0
+process 3 L 6 offers 9 base 3 purse 0 payer 0
+chan 0 1
+chan 1 4
+value 2 1
+chan 3 12
+process 4 L 6 offers 8 base 4 purse 0 payer 0
+chan 0 3
+chan 1 3
+value 2 1
+chan 3 13
+message 8 provider 9 13 value 6 purse 0
+message 9 provider 8 12 value 7 purse 0
 ";

@@ -3,26 +3,36 @@
 use crate::accepted::accepted_of;
 use crate::answer::{Answer, answer_of};
 use crate::contracts::{
-    AUCTION, AUCTION_BIDDEN, AUCTION_STARTED, BOX, BOX_BEGIN, CELLS, CELLS_LEDGER, HALVES,
-    HELD_LEDGER, HOLDERS, IDLE, IDLE_LEDGER,
+    AUCTION, AUCTION_BIDDEN, AUCTION_STARTED, BOX, BOX_BEGIN, BOX_LEDGER, CELLS, CELLS_LEDGER,
+    CROSSED_LEDGER, CROSSING, GIFT, GIFT_LEDGER, HALVES, HELD_LEDGER, HOLDERS, IDLE, IDLE_LEDGER,
 };
+use nomos_types::accepted::Accepted;
 use std::alloc::{AllocError, Global};
 use std::process::Abort;
 use std::test::Fail;
 
-// Asserts what is answered of texts of one contract.
+// Asserts what is answered of texts of an accepted contract.
+fn assert_answers_on<R: Abort + AllocGlobal>(
+    rt: &R,
+    accepted: &Accepted,
+    texts: &[(&str, Answer)],
+) -> Result<(), Fail> {
+    for case in texts {
+        let (text, wanted) = *case;
+        let answer = answer_of(rt.alloc(), accepted, text.as_bytes())?;
+        assert!(rt; answer == wanted, "{text}");
+    }
+    Ok(())
+}
+
+// The same, where the contract is a text.
 fn assert_answers<R: Abort + AllocGlobal>(
     rt: &R,
     contract: &str,
     texts: &[(&str, Answer)],
 ) -> Result<(), Fail> {
     let accepted = accepted_of(rt, contract);
-    for case in texts {
-        let (text, wanted) = *case;
-        let answer = answer_of(rt.alloc(), &accepted, text.as_bytes())?;
-        assert!(rt; answer == wanted, "{text}");
-    }
-    Ok(())
+    assert_answers_on(rt, &accepted, texts)
 }
 
 /// Texts of the contract that does nothing: lines that are missing, may not stand there or have numbers over their
@@ -182,6 +192,13 @@ fn an_auction(rt: HostRuntime) -> Result<(), Fail> {
     )
 }
 
+#[test]
+fn messages_that_wait(rt: HostRuntime) -> Result<(), Fail> {
+    assert_answers(&rt, GIFT, &[(GIFT_LEDGER, Answer::Loaded)])?;
+    assert_answers(&rt, CROSSING, &[(CROSSED_LEDGER, Answer::Loaded)])?;
+    assert_answers(&rt, BOX, &[(BOX_LEDGER, Answer::Loaded)])
+}
+
 /// What may stand behind the box, and what is then answered.
 const BOX_LINES: [(&str, Answer); 7] = [
     ("list 0 2 [7,5]\n", Answer::Loaded),
@@ -201,15 +218,20 @@ fn box_with(alloc: Global, lines: &str) -> Result<String, AllocError> {
     format!(in alloc; "{BOX_BEGIN}{lines}")
 }
 
-#[test]
-fn lists_that_carry_potential(rt: HostRuntime) -> Result<(), Fail> {
-    let accepted = accepted_of(&rt, BOX);
+// Asserts what is answered of the box with these lines behind it.
+fn assert_boxes<R: Abort + AllocGlobal>(rt: &R, accepted: &Accepted) -> Result<(), Fail> {
     for (lines, wanted) in BOX_LINES {
         let text = box_with(rt.alloc(), lines)?;
-        let answer = answer_of(rt.alloc(), &accepted, text.as_bytes())?;
+        let answer = answer_of(rt.alloc(), accepted, text.as_bytes())?;
         assert!(rt; answer == wanted, "{lines}");
     }
     Ok(())
+}
+
+#[test]
+fn lists_that_carry_potential(rt: HostRuntime) -> Result<(), Fail> {
+    let accepted = accepted_of(&rt, BOX);
+    assert_boxes(&rt, &accepted)
 }
 
 // The box with a value in which so many lists stand in one another.
@@ -225,13 +247,18 @@ fn box_nested(alloc: Global, depth: usize) -> Result<String, AllocError> {
     Ok(text)
 }
 
-#[test]
-fn lists_in_one_another(rt: HostRuntime) -> Result<(), Fail> {
-    let accepted = accepted_of(&rt, BOX);
+// Asserts what is answered of the box with nested lists.
+fn assert_nested<R: Abort + AllocGlobal>(rt: &R, accepted: &Accepted) -> Result<(), Fail> {
     for (depth, wanted) in [(256, Answer::NotTyped), (257, Answer::BadLine(9))] {
         let text = box_nested(rt.alloc(), depth)?;
-        let answer = answer_of(rt.alloc(), &accepted, text.as_bytes())?;
+        let answer = answer_of(rt.alloc(), accepted, text.as_bytes())?;
         assert!(rt; answer == wanted, "{depth}");
     }
     Ok(())
+}
+
+#[test]
+fn lists_in_one_another(rt: HostRuntime) -> Result<(), Fail> {
+    let accepted = accepted_of(&rt, BOX);
+    assert_nested(&rt, &accepted)
 }
