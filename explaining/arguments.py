@@ -349,13 +349,14 @@ class Arguments:
         return [mend(f"write this line behind line {row.number}", *edits)] if is_made else []
 
     def of_one(self, token, suits):
-        """Gives a line for the one contract that has the type: what is meant, where its name is one letter away."""
+        """Gives a line for the one contract that has the type: what is meant, where its name is one letter away, or where
+        no other contract is made at all, since else somebody could get what is another's."""
         edit = (token.at, token.end, suits[0] if suits else "")
         if len(suits) != 1 or self.made_elsewhere(token.text) or not self.refused.goes_on(edit):
             return []
         if distance(suits[0], token.text) == 1:
             return [mend(f"did you mean `{suits[0]}`?", edit)]
-        is_known = token.text in self.run.codes.processes or self.of_account(token.text)
+        is_known = token.text in self.run.codes.processes or self.of_account(token.text) or len(self.known) > 1
         words = f"write `{suits[0]}`, the one contract of this type, in place of `{token.text}`"
         return [] if is_known or not token.text.isidentifier() else [mend(words, edit)]
 
