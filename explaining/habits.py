@@ -191,6 +191,11 @@ class Habits(Wordings):
             old = self.text.text[word.at : self.token(1).end]
             new = f"{before.text}.{self.token(1).text}; case {before.text}"
             yield Slip("Syntax", f"write `{new}` in place of `{old}`", (word.at, self.token(1).end, new))
+        starts = [at for at in range(self.index) if self.text_at(at) in (";", "{", "=>", "else")]
+        is_spawned = bool(starts) and self.text_at(starts[-1] + 1) == "spawn"
+        if mark.text == ")" and ";" in self.wanted and is_spawned and self.token(1).kind == "word":
+            words = "write `;` before this `)`, where the channels would stand, and one behind it"
+            yield Slip("Syntax", words, (mark.at, mark.end, ";);"))
         way = ADDED.get(mark.text)
         if word.text == "{" and before.kind == self.token(1).kind == "number" and way and self.token(2).text == "}":
             new = str(max(way(int(before.text[:9]), int(self.token(1).text[:9])), 0))

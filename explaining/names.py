@@ -899,7 +899,8 @@ def of_unbound(names, at, program, grammar, moves_on):
     near = next((it for it in names.near(at) if moves_on(it)), None)
     lacking = missing(names, at, program) or turned(names, at, program) or started(names, at, program)
     if not lacking and near is None and (other is None or other[1] == wanted):
-        lacking = one_bound(names, at, program)
+        sure = bound_here(names, at, program, is_sure=True)
+        lacking = one_bound(names, at, program) or (sure if len(sure) == 1 else [])
         is_asked = names.tokens[at - 1].text == "acquire" and not bound_here(names, at, program, is_sure=True)
         lacking = lacking or (missing(names, at, program, is_asked=True) if is_asked else [])
     if lacking:
