@@ -349,8 +349,8 @@ class Arguments:
         return [mend(f"write this line behind line {row.number}", *edits)] if is_made else []
 
     def of_one(self, token, suits):
-        """Gives a line for the one contract that has the type: what is meant, where its name is one letter away, or where
-        no other contract is made at all, since else somebody could get what is another's."""
+        """Gives a line for the one contract that has the type: what is meant, where its name is one letter away, or
+        where no other contract is made at all, since else somebody could get what is another's."""
         edit = (token.at, token.end, suits[0] if suits else "")
         if len(suits) != 1 or self.made_elsewhere(token.text) or not self.refused.goes_on(edit):
             return []

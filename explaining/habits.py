@@ -178,15 +178,9 @@ class Habits(Wordings):
         new = f"{label.text} => {code}"
         yield Slip("Syntax label", f"write `{new}` in place of `{old}`", (label.at, sign.end, new))
 
-    def of_bare(self):
-        """An instruction without what it sends, with a `self` that it has not, or on `self` where it is on others."""
+    def of_amounts_and_calls(self):
+        """A label that is sent in a `case`, a `spawn` without its two `;`, and an amount that is no number."""
         mark, before, word = self.marked, self.token(-1), self.token(-2)
-        is_end = mark.text in (";", "}", "|")
-        if is_end and word.text == "put" and self.wants("term"):
-            words = f"write `{word.text} {before.text} ..`, with what is sent"
-            yield Slip("Syntax", words, (before.end, before.end, " 0"))
-        if mark.text in (";", "}", "|") and before.text == "emit" and self.wants("term"):
-            yield Slip("Syntax", "write `emit ..`, with a value", (before.end, before.end, " 0"))
         if mark.text == "." and word.text == "case" and self.token(1).kind == "word" and self.token(2).text == "{":
             old = self.text.text[word.at : self.token(1).end]
             new = f"{before.text}.{self.token(1).text}; case {before.text}"
@@ -205,6 +199,17 @@ class Habits(Wordings):
         if before.text == "{" and mark.kind == "word" and "*" in self.wanted and self.token(1).text == "}":
             words = f"write `*`, for which an amount is found, in place of `{mark.text}`"
             yield Slip("Syntax", f"{words}: no amount of gas is read of a value", (mark.at, mark.end, "*"))
+
+    def of_bare(self):
+        """An instruction without what it sends, with a `self` that it has not, or on `self` where it is on others."""
+        mark, before, word = self.marked, self.token(-1), self.token(-2)
+        is_end = mark.text in (";", "}", "|")
+        if is_end and word.text == "put" and self.wants("term"):
+            words = f"write `{word.text} {before.text} ..`, with what is sent"
+            yield Slip("Syntax", words, (before.end, before.end, " 0"))
+        if mark.text in (";", "}", "|") and before.text == "emit" and self.wants("term"):
+            yield Slip("Syntax", "write `emit ..`, with a value", (before.end, before.end, " 0"))
+        yield from self.of_amounts_and_calls()
         if word.text == "send" and (mark.text in ("me", "true", "false", "nil") or mark.kind == "number"):
             new, old = f"put {before.text}", f"send {before.text} {mark.text}"
             words = f"write `{new} {mark.text}` in place of `{old}`, since it is a value"
