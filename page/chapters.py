@@ -5,6 +5,8 @@ import re
 
 # The kinds of blocks that begin a step; the others say what is answered.
 TEXTS = ("nomos", "script")
+# Those that are shown, and not run.
+SHOWN = ("piece", "called", "asked")
 
 
 def inline(text):
@@ -56,7 +58,7 @@ class Told:
 
     def __init__(self):
         self.steps, self.lines, self.chapter = [], [], "A first contract"
-        self.kept, self.contract, self.script = "", "", ""
+        self.kept, self.contract, self.script, self.begun = "", "", "", -1
 
     def text(self, words, block):
         """A text that is written: a step begins."""
@@ -80,10 +82,18 @@ class Told:
         self.steps[-1]["answers"].append(kind)
         self.lines = []
 
+    def shown(self, words, block):
+        """A call of another command, or a file that it reads: the page runs none of these, and shows them."""
+        heads = {"called": ["$ ./nomos"], "asked": ["$ ./explain"], "piece": []}
+        head = " ".join([*heads[words[0]], *words[1 if words[0] == "piece" else 2 :]])
+        self.lines += ["", *(f"    {it}" for it in [head, *block.splitlines()]), ""]
+
     def end(self):
-        """What is told behind the last answer of a chapter belongs to its last step."""
+        """What is told behind the last answer of a chapter belongs to its last step; and so does a chapter without
+        one."""
         if self.steps and self.lines:
-            self.steps[-1]["behind"] = told(self.lines)
+            lines = [f"### {self.chapter}", "", *self.lines] if self.begun == len(self.steps) else self.lines
+            self.steps[-1]["behind"] = self.steps[-1].get("behind", "") + told(lines)
         self.lines = []
 
 
@@ -96,11 +106,13 @@ def steps(page):
             is_first = not found.steps
             if not is_first:
                 found.end()
-            found.chapter = text
+            found.chapter, found.begun = text, len(found.steps)
         elif kind == "line":
             found.lines.append(text)
         elif words[0] in TEXTS:
             found.text(words, text)
+        elif words[0] in SHOWN:
+            found.shown(words, text)
         else:
             found.answer(words, text)
     found.end()

@@ -65,7 +65,8 @@ class Due:
                 self.say(number, column, f"write `{MARK}`, without a blank, or a comment that does not begin with `!`")
             elif MARK in said and about == number:
                 self.say(number, column + 2 + said.index(MARK), f"`{MARK}` stands in another comment; write it first")
-        self.are_single("contract", "options")
+        self.are_single(*forms.HEADS)
+        self.are_alone("evening", "threads", "options")
 
     def say(self, line, column, says):
         self.wrong.append(Wrong(line, column + 1, says))
@@ -89,7 +90,7 @@ class Due:
         kind = forms.kind_of(part.words, self.forms)
         if kind is None:
             return forms.no_form(part.words, self.shown)
-        is_head = kind in ("contract", "options")
+        is_head = kind in forms.HEADS
         if is_script and is_head != (part.about == 0):
             return "this stands above all lines" if is_head else "no line stands above this"
         return ""
@@ -99,6 +100,12 @@ class Due:
         for kind in kinds:
             for it in self.of(kind)[1:]:
                 self.say(it.line, it.column - 1, "this is said twice")
+
+    def are_alone(self, *kinds):
+        """Has a part of one of these kinds be wrong behind one of another, since no command has both."""
+        for it in self.of(*kinds)[1:]:
+            if it.kind != self.of(*kinds)[0].kind:
+                self.say(it.line, it.column - 1, f"no command takes this beside `{self.of(*kinds)[0].words.split()[0]}`")
 
     def of(self, *kinds):
         return [it for it in self.parts if it.kind in kinds]

@@ -28,7 +28,11 @@ OF_SCRIPT = {
             f"|{NAME} owns [0-9]+",
     "contract": r"on \S.*\.nomos",
     "options": f"with(?: (?:{OPTION}))+",
+    "evening": r"behind \S.*\.script",
+    "threads": "pooled [1-8]",
 }
+# The kinds that stand above all lines of a script.
+HEADS = ("contract", "options", "evening", "threads")
 # The words that parts begin with, each with the form that is said of it where the others do not fit.
 SHOWN_OF_CONTRACT = {
     "accepted": "accepted", "refused": "refused CAUSE [WORD]", "unsolved": "unsolved Pivots | Large", "unit": "unit G",
@@ -39,13 +43,14 @@ SHOWN_OF_SCRIPT = {
     "aborted": "aborted FAULT", "refused": "refused CAUSE [WORDS]", "result": "result VALUE", "spent": "spent G",
     "account": "account NAME G", "contract": "contract NAME gas G [free | held]", "owns": "NAME owns N",
     "stored": "stored G", "deposits": "deposits G", "on": "on FILE.nomos",
-    "with": "with [--policy first | round] [--workers N] [--steps N]",
+    "with": "with [--policy first | round] [--workers N] [--steps N]", "behind": "behind FILE.script",
+    "pooled": "pooled N",
 }
 
 
 def plain(said):
     """Gives the words of a part with one blank between two of them, and none in a list."""
-    words = said.replace("=", " = ").split() if said.split()[:1] != ["on"] else said.split()
+    words = said.split() if said.split()[:1] in (["on"], ["behind"]) else said.replace("=", " = ").split()
     return f"result {''.join(words[1:])}" if words[:1] == ["result"] and len(words) > 1 else " ".join(words)
 
 

@@ -116,7 +116,7 @@ class Tests:
             self.differs(script.name, 1, 1, "", "", "", [], wrong=says)
             return
         options = [word for it in due.of("options") for word in it.words.split()[1:]]
-        if self.count:
+        if self.count and not due.of("evening", "threads"):
             orders.compare(self, text, script, due, options)
         else:
             self.run(file, text, script, due, options)
@@ -139,10 +139,32 @@ class Tests:
         self.differs(script.name, line, 1, script.line(line).strip(), wanted, found, [])
         return False
 
+    def asked(self, file, text, script, due):
+        """Gives the answer to a script: from the empty ledger or, by its head, from the one that another script leaves,
+        or with its single lines submitted by threads."""
+        kept, call = self.program.kept, self.program.call
+        threads = [it.words.split()[1] for it in due.of("threads")]
+        evening = [it.words.split(" ", 1)[1].encode("latin-1") for it in due.of("evening")]
+        if threads:
+            return call("pool", kept("contract.nomos", text.data), kept("lines.script", script.data), threads[0])
+        if not evening:
+            return self.program.run(text.data, script.data)
+        before = read(os.path.join(os.path.dirname(file), os.fsdecode(evening[0])), LIMIT + 1)
+        contract, snapshot = kept("contract.nomos", text.data), kept("snapshot", b"")
+        answer = call("save", contract, kept("before.script", before), snapshot)
+        if answer.status not in RAN:
+            return answer
+        return call("resume", contract, snapshot, kept("lines.script", script.data))
+
     def run(self, file, text, script, due, options):
         """Compares one run of a script."""
         self.program.options = options
-        answer = self.program.run(text.data, script.data)
+        try:
+            answer = self.asked(file, text, script, due)
+        except Unread as error:
+            says = f"the script that stands before it, {named(error.name)}, cannot be read: {error.why}"
+            self.differs(script.name, 1, 1, "", "", "", [], wrong=says)
+            return
         if not self.has_run(text, script, answer):
             return
         run, differences, filled = None, [], []
@@ -154,7 +176,8 @@ class Tests:
             more = comparing.of_line(due.between(first, last), found, line)
             differences += more
             self.lines += 1
-            if more and more[0].found == found.end and not found.is_good and not self.is_written:
+            is_told = not self.is_written and not due.of("evening", "threads")
+            if more and more[0].found == found.end and not found.is_good and is_told:
                 run = run or self.meaning.run(text, script, answer, self.program)
                 self.show(script, more, self.meaning.of_line(run, entry))
             else:
