@@ -11,7 +11,6 @@ from .names import MOST_TOKENS
 COUNTS = {"pool": 3, "talk": 5, "save": 3, "resume": 3}
 READ = {"pool": (0, 1), "talk": (0, 1, 4), "save": (0, 1), "resume": (0, 2, 1)}
 NAMED = ("contract", "script", "third")
-USAGE = "pool FILE SCRIPT THREADS | talk FILE SCRIPT NAME PROC TALK | save FILE SCRIPT SNAP | resume FILE SNAP SCRIPT"
 
 
 def is_call(words):

@@ -48,7 +48,8 @@ _nomos_run() {
 _nomos() {
     local word=${COMP_WORDS[COMP_CWORD]} wanted='*.nomos' before=${COMP_WORDS[COMP_CWORD - 1]}
     COMPREPLY=()
-    if [ "${COMP_WORDS[0]##*/}" = nomos ]; then
+    if [ "${COMP_WORDS[0]##*/}" = nomos ] ||
+        [[ $COMP_CWORD -gt 1 && ${COMP_WORDS[0]##*/} == *explain && ${COMP_WORDS[1]} =~ ^(pool|talk|save|resume)$ ]]; then
         if [ "$COMP_CWORD" -eq 1 ]; then
             mapfile -t COMPREPLY < <(compgen -W 'check run replay bench least pool talk save resume' -- "$word")
             return
