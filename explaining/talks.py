@@ -16,7 +16,8 @@ WORDS = {
 }
 FORMS = ("label", "value", "pay", "hear")
 HERE = "here may stand: `label NAME`, `value V`, `pay`, `hear`"
-MOST_LABELS, MOST_VALUES = 12, 3
+# How many labels and processes are tried, and for how many seconds each.
+MOST_LABELS, SECONDS = 12, 5
 
 
 def ways(row):
@@ -57,8 +58,9 @@ class Talk:
         kept = self.program.kept
         files = kept("contract.nomos", self.text.data), kept("lines.script", script or self.script.data)
         data = self.talk.edited(*edits) if edits else self.talk.data
-        answer = self.program.call("talk", *files, name or self.name, process or self.process, kept("lines.talk", data))
-        return [it for it in answer.lines if it[:1] == ["talk"]]
+        words = name or self.name, process or self.process, kept("lines.talk", data)
+        answer = self.program.call("talk", *files, *words, seconds=SECONDS)
+        return [it for it in answer.lines if it[:1] == ["talk"]] if answer else []
 
     def of_text(self, answer):
         """Gives what is found where the text of the talk is refused."""
