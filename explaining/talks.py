@@ -54,13 +54,14 @@ class Talk:
         self.name, self.process = words[3:5]
 
     def asked(self, *edits, script=None, name=None, process=None):
-        """Gives the lines of the answer with edits of the talk, or with another script, account or process."""
+        """Gives the lines of the answer with edits of the talk, or with another script, account or process; nothing where
+        that takes too long."""
         kept = self.program.kept
         files = kept("contract.nomos", self.text.data), kept("lines.script", script or self.script.data)
         data = self.talk.edited(*edits) if edits else self.talk.data
         words = name or self.name, process or self.process, kept("lines.talk", data)
         answer = self.program.call("talk", *files, *words, seconds=SECONDS)
-        return [it for it in answer.lines if it[:1] == ["talk"]] if answer else []
+        return [it for it in answer.lines if it[:1] == ["talk"]] if answer else None
 
     def of_text(self, answer):
         """Gives what is found where the text of the talk is refused."""
@@ -77,8 +78,8 @@ class Talk:
 
     def is_past(self, number, replies):
         """Whether a text of a talk is read past a line."""
-        refused = [int(it[3]) for it in replies if it[:3] == ["talk", "refused", "Syntax"]]
-        return not refused or refused[0] > number
+        refused = [int(it[3]) for it in replies or () if it[:3] == ["talk", "refused", "Syntax"]]
+        return replies is not None and (not refused or refused[0] > number)
 
     def of_replies(self, answer):
         """Gives what is found where a talk is not opened, or ends before its text."""
@@ -109,7 +110,7 @@ class Talk:
 
     def opens(self, **others):
         """Whether the talk is opened with another account, or another process."""
-        return ["talk", "opened"] in self.asked(**others)
+        return ["talk", "opened"] in (self.asked(**others) or ())
 
     def refused(self, reply):
         """Gives what is found where a talk is not opened: the words of the call say with whom."""
@@ -150,7 +151,7 @@ class Talk:
         edit = (last.end, last.end, f"\n{new}")
         replies = self.asked(script=self.script.edited(edit))
         number = str(row.number) if row else "opened"
-        is_past = any(it[1] == number and it[2:3] in ([], ["said"]) for it in replies)
+        is_past = any(it[1] == number and it[2:3] in ([], ["said"]) for it in replies or ())
         return [mend(f"write `{new}` on a line behind line {last.number} of the script", edit)] if is_past else []
 
     def unit(self):
@@ -177,7 +178,7 @@ class Talk:
         lines += [mend(f"write `{self.shown(new)}` in place of `{row.text}`", edit) for new, edit in said]
         if not lines:
             edit = (row.at, min(row.end + 1, self.talk.size), "")
-            further = [it for it in self.asked(edit) if it[2:3] == ["protocol"]]
+            further = [it for it in self.asked(edit) or () if it[2:3] == ["protocol"]]
             later = [int(it[1]) for it in further]
             lines = [mend("take this line out", edit)] if not later or later[0] > row.number else []
         return list(dict.fromkeys(lines))[:3]
@@ -194,7 +195,7 @@ class Talk:
 
     def is_said(self, number, replies, before=None):
         """Whether a line is said, or heard, and one before it too, and the program goes on behind it."""
-        ends = {int(it[1]): it[2:] for it in replies if it[1].isdecimal()}
+        ends = {int(it[1]): it[2:] for it in replies or () if it[1].isdecimal()}
         wanted = [it for it in (number, before) if it is not None]
         return all(ends.get(it, ["none"])[0] in ("said", "heard", "gas") and ends[it] != ["heard", "nothing"]
                    for it in wanted)
