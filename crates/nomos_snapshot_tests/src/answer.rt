@@ -59,11 +59,13 @@ pub(crate) fn answer_of(
     let loaded: Result<Ledger<IndexedState>, LoadError> = load(alloc, accepted, text);
     match loaded {
         Ok(ledger) => {
-            if is_saved_as(alloc, accepted, &ledger, text) {
-                Ok(Answer::Loaded)
+            let is_same = is_saved_as(alloc, accepted, &ledger, text);
+            drop(ledger);
+            Ok(if is_same {
+                Answer::Loaded
             } else {
-                Ok(Answer::Unlike)
-            }
+                Answer::Unlike
+            })
         }
         Err(why) => refused(why),
     }

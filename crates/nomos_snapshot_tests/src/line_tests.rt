@@ -2,9 +2,11 @@
 
 use crate::programs::example_program;
 use nomos_ir::program::Program;
+use nomos_snapshot::line::SnapshotLine;
 use nomos_snapshot::reading::LineReader;
 use nomos_snapshot::writing::push_line;
 use std::alloc::{AllocError, Global};
+use std::process::Abort;
 use std::test::Fail;
 
 /// Lines of every kind.
@@ -63,31 +65,59 @@ const OTHERS: [&str; 26] = [
     "Unit 1",
 ];
 
-// Whether a text is read as a line that is written so.
+// Whether a line is written so.
+fn is_written_so(
+    alloc: Global,
+    program: &Program,
+    line: &SnapshotLine,
+    text: &str,
+) -> Result<bool, AllocError> {
+    let mut written = Vec::new(alloc);
+    push_line(&mut written, program, line)?;
+    Ok(written.pop() == Some(b'\n') && written.as_slice() == text.as_bytes())
+}
+
+// Whether a text is read as a line that is written so, by a reader of a program's lines.
+fn comes_back_by(
+    alloc: Global,
+    reader: &LineReader<'_>,
+    program: &Program,
+    text: &str,
+) -> Result<bool, AllocError> {
+    match reader.read(alloc, text.as_bytes())? {
+        Some(line) => is_written_so(alloc, program, &line, text),
+        None => Ok(false),
+    }
+}
+
+// The same, where the reader is made for it.
 fn comes_back(alloc: Global, program: &Program, text: &str) -> Result<bool, AllocError> {
     let reader = LineReader::of(alloc, program)?;
-    let Some(line) = reader.read(alloc, text.as_bytes())? else {
-        return Ok(false);
-    };
-    let mut written = Vec::new(alloc);
-    push_line(&mut written, program, &line)?;
-    Ok(written.pop() == Some(b'\n') && written.as_slice() == text.as_bytes())
+    comes_back_by(alloc, &reader, program, text)
+}
+
+// Asserts whether texts come back.
+fn assert_come_back<R: Abort + AllocGlobal>(
+    rt: &R,
+    program: &Program,
+    texts: &[&str],
+    wanted: bool,
+) -> Result<(), Fail> {
+    for text in texts {
+        let found = comes_back(rt.alloc(), program, text)?;
+        assert!(rt; found == wanted, "{text}");
+    }
+    Ok(())
 }
 
 #[test]
 fn lines_come_back(rt: HostRuntime) -> Result<(), Fail> {
     let program = example_program(rt.alloc())?;
-    for line in LINES {
-        assert!(rt; comes_back(rt.alloc(), &program, line)?, "{line}");
-    }
-    Ok(())
+    assert_come_back(&rt, &program, &LINES, true)
 }
 
 #[test]
 fn other_texts_are_no_lines(rt: HostRuntime) -> Result<(), Fail> {
     let program = example_program(rt.alloc())?;
-    for line in OTHERS {
-        assert!(rt; !comes_back(rt.alloc(), &program, line)?, "{line}");
-    }
-    Ok(())
+    assert_come_back(&rt, &program, &OTHERS, false)
 }
