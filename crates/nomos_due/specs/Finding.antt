@@ -1,4 +1,4 @@
--- What the code finds and makes. Private clauses alone cite it.
+-- What the code finds and makes on the way to what is due. The calls that do a part of it cite it; no statement does.
 use Rattle.std.specs.Prelude.{◌≡◌, ◌≢◌, ℕ, ◌<◌, ◌^◌, ◌++◌, Bool, List, take, length, Some, None, Result, Ok, Err, codes}
 use Rattle.nomos_types.specs.Acceptance.{Acceptance}
 use Rattle.nomos_ir.specs.Limits.{text_limit}

@@ -19,7 +19,7 @@ pub struct Due {
 }
 
 /// The journal without entries.
-pub(crate) fn no_entries(alloc: Global, limit: u32) -> Journal
+pub fn no_entries(alloc: Global, limit: u32) -> Journal
     ensures { result ≡ no_entries limit }
 {
     Journal {
@@ -29,7 +29,7 @@ pub(crate) fn no_entries(alloc: Global, limit: u32) -> Journal
 }
 
 /// A text with its status, where nothing was run.
-pub(crate) fn bare_due(alloc: Global, limit: u32, status: u8, out: Vec<u8>) -> Due
+pub fn bare_due(alloc: Global, limit: u32, status: u8, out: Vec<u8>) -> Due
     ensures { IsBare result status out.items limit }
 {
     Due {
@@ -41,7 +41,7 @@ pub(crate) fn bare_due(alloc: Global, limit: u32, status: u8, out: Vec<u8>) -> D
 }
 
 /// A line with its status, where nothing was run.
-pub(crate) fn line_due(alloc: Global, limit: u32, status: u8, line: &[u8]) -> Result<Due, Journal>
+pub fn line_due(alloc: Global, limit: u32, status: u8, line: &[u8]) -> Result<Due, Journal>
     ensures ok { IfOk result (λ due. IsBare due status line.now limit) }
     ensures err { IfErr result (λ journal. journal ≡ no_entries limit) }
 {

@@ -29,7 +29,7 @@ use std::alloc::Global;
 
 /// Why there is no ledger to begin at.
 #[derive(Drop)]
-enum NoLedger {
+pub enum NoLedger {
     ReadFault,
     Refused(LoadError),
 }
@@ -50,8 +50,8 @@ fn ledger_of<M: Contents + Drop>(
     }
 }
 
-// The ledger of the snapshot that a source has.
-fn read_ledger<M: Contents + Drop, S: Source>(
+/// The ledger of the snapshot that a source has, from which a run may go on.
+pub fn read_ledger<M: Contents + Drop, S: Source>(
     alloc: Global,
     accepted: &Accepted,
     snapshot: &mut S,
@@ -68,8 +68,8 @@ fn read_ledger<M: Contents + Drop, S: Source>(
     }
 }
 
-// What is due where there is no ledger to begin at.
-fn no_ledger_due(alloc: Global, why: &NoLedger) -> Result<Due, Journal>
+/// What is due where there is no ledger to begin at, unless memory was wanting.
+pub fn no_ledger_due(alloc: Global, why: &NoLedger) -> Result<Due, Journal>
     ensures ok { IfOk result (HasNoLedger why.now) }
     ensures err { IfErr result (λ journal. journal ≡ no_entries usual_limit) }
 {

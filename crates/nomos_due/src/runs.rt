@@ -30,7 +30,7 @@ use std::sync::Wait;
 use std::thread::Threads;
 
 /// How a script is run where the words say nothing of that. It takes no memory.
-pub(crate) fn usual_orders() -> Orders
+pub fn usual_orders() -> Orders
     ensures { result ≡ usual_orders }
 {
     Orders {

@@ -16,7 +16,7 @@ use std::alloc::{AllocError, Global};
 
 /// Why there is no script.
 #[derive(Clone, Copy)]
-pub(crate) enum NoScript {
+pub enum NoScript {
     TooLong,
     /// The line that it is refused at.
     Syntax(u32),
@@ -25,7 +25,7 @@ pub(crate) enum NoScript {
 }
 
 /// The script of a text.
-pub(crate) fn script_of(alloc: Global, text: &[u8]) -> Result<Script, NoScript>
+pub fn script_of(alloc: Global, text: &[u8]) -> Result<Script, NoScript>
     ensures { (counts : FaultCounts) → FindsIn (record { text = text.now; counts = counts }) result }
 {
     match parse_script(alloc, text) {
@@ -37,7 +37,7 @@ pub(crate) fn script_of(alloc: Global, text: &[u8]) -> Result<Script, NoScript>
 }
 
 /// The script that a source has.
-pub(crate) fn read_script<S: Source>(alloc: Global, script: &mut S) -> Result<Script, NoScript>
+pub fn read_script<S: Source>(alloc: Global, script: &mut S) -> Result<Script, NoScript>
     ensures { Finds (source_state (S.left script.old) (S.faults script.old) (S.faults script.new)) result }
 {
     match read_all(alloc, script, TEXT_LIMIT) {
@@ -60,12 +60,7 @@ fn refusal_at(alloc: Global, cause: &[u8], line: u32) -> Result<Vec<u8>, AllocEr
 }
 
 /// What is due of a script that is refused for a cause at a line. The cause ends with a blank.
-pub(crate) fn refused_at_due(
-    alloc: Global,
-    limit: u32,
-    cause: &[u8],
-    line: u32,
-) -> Result<Due, Journal>
+pub fn refused_at_due(alloc: Global, limit: u32, cause: &[u8], line: u32) -> Result<Due, Journal>
     ensures ok { IfOk result (λ due. IsBare due 2 (script_refusal (cause.now ++ decimal line)) limit) }
     ensures err { IfErr result (λ journal. journal ≡ no_entries limit) }
 {
@@ -76,7 +71,7 @@ pub(crate) fn refused_at_due(
 }
 
 /// What is due where there is no script.
-pub(crate) fn no_script_due(alloc: Global, limit: u32, why: NoScript) -> Result<Due, Journal>
+pub fn no_script_due(alloc: Global, limit: u32, why: NoScript) -> Result<Due, Journal>
     ensures ok { (script : Input) → IsMissing script why → IfOk result (IsBareOf script limit) }
     ensures err { IfErr result (λ journal. journal ≡ no_entries limit) }
 {

@@ -15,7 +15,7 @@ use nomos_texts::number::push_number;
 use std::alloc::{AllocError, Global};
 
 /// The line of a ledger that is not saved. Want of memory has none.
-pub(crate) fn unsaved_line(alloc: Global, why: &SaveError) -> Result<Vec<u8>, AllocError>
+pub fn unsaved_line(alloc: Global, why: &SaveError) -> Result<Vec<u8>, AllocError>
     ensures { IfOk result (λ text. text.items ≡ unsaved_line why.now) }
 {
     match why {
@@ -74,7 +74,7 @@ fn unloaded_line(alloc: Global, why: &LoadError) -> Result<Vec<u8>, AllocError>
 }
 
 /// What is due of a snapshot that is not loaded.
-pub(crate) fn unloaded_due(alloc: Global, why: &LoadError) -> Result<Due, Journal>
+pub fn unloaded_due(alloc: Global, why: &LoadError) -> Result<Due, Journal>
     ensures ok { IfOk result (λ due. IsBare due 11 (unloaded_line why.now) usual_limit) }
     ensures err { IfErr result (λ journal. journal ≡ no_entries usual_limit) }
 {

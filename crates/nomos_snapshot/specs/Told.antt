@@ -1,9 +1,14 @@
 -- What the code keeps of what lines told, and what a line more does.
-use Rattle.std.specs.Prelude.{◌≡◌, ◌≢◌, ◌≤◌, ◌↔◌, ℕ, List, [], length, map, Bool, MatchBool, None, IfSome}
+use Rattle.std.specs.Prelude.{◌≡◌, ◌≢◌, ◌<◌, ◌≤◌, ◌↔◌, ◌^◌, ℕ, List, [], length, map, All, Bool, MatchBool, None, IfSome}
+use Rattle.std.specs.List.Sorted.{IsStrictlySortedBy}
 use Rattle.std.specs.Option.{option_map}
+use Rattle.std.specs.Ordering.{nat_cmp}
 use Rattle.nomos_ir.specs.declared.ids.VarId.{VarId}
 use Rattle.nomos_contents.specs.Data.{state_of}
+use Rattle.nomos_contents.specs.declared.data.StateData.{StateData}
 use Rattle.nomos_legal.specs.Ledger.{LedgerState, account_of}
+use Rattle.nomos_machine.specs.Objects.{object_number}
+use Rattle.nomos_machine.specs.TypedState.{HasVariables}
 use Rattle.nomos_machine.specs.declared.object.Object.{Object}
 use Rattle.nomos_machine.specs.declared.object.Object.TheVariants as object
 use Rattle.nomos_machine.specs.declared.object.PotentialList.{PotentialList}
@@ -70,6 +75,13 @@ parts_ledger p = record {
   deposits = 0;
   state = state_of p.contents;
 }
+
+-- Objects, names and the variables of each process stand in order, each once, and there are fewer than 2^31 accounts.
+pub record AreSorted (d : StateData) : Type 0 where
+  pub objects : IsStrictlySortedBy nat_cmp (map object_number d.objects)
+  pub table : IsStrictlySortedBy nat_cmp (map (λ t. t.0) d.types)
+  pub variables : All HasVariables d.objects
+  pub few : length d.balances < 2 ^ 31
 
 -- ---- the least numbers that may follow
 

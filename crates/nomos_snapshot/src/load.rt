@@ -9,8 +9,8 @@ ghost use Rattle.nomos_snapshot.specs.Loading.{Admits, LoadAnswer, Loads, TellsL
 ghost use Rattle.nomos_snapshot.specs.Saving.{HasLowNumbers};
 ghost use Rattle.nomos_snapshot.specs.Snapshotted.{HasSnapshot};
 ghost use Rattle.nomos_snapshot.specs.Text.{snapshot_text};
-ghost use Rattle.nomos_snapshot.specs.Told.{parts_ledger};
-ghost use Rattle.nomos_snapshot.specs.mirror.Loaded.{AreShared, AreSorted, IsSoundState, IsWorthOf, MayStand, Refuses};
+ghost use Rattle.nomos_snapshot.specs.Told.{AreSorted, parts_ledger};
+ghost use Rattle.nomos_snapshot.specs.mirror.Loaded.{AreShared, IsSoundState, IsWorthOf, MayStand, Refuses};
 
 use crate::error::LoadError;
 use crate::loading::{are_names_below, are_objects_below, deposits_of, has_transaction, read_told};
@@ -102,8 +102,9 @@ fn is_sound_state(
     Ok(typed)
 }
 
-// The parts of the ledger that a text tells. A list that no machine keeps stands in no typed state.
-fn parts_told(alloc: Global, accepted: &Accepted, text: &[u8]) -> Result<LedgerParts, LoadError>
+/// The parts of the ledger that a text tells. The errors are `TooLong`, `BadLine`, `NoMemory`, and `NotTyped` of a list
+/// that no machine keeps, which stands in no typed state.
+pub fn parts_told(alloc: Global, accepted: &Accepted, text: &[u8]) -> Result<LedgerParts, LoadError>
     ensures ok { IfOk result (λ parts. TellsLedger accepted.now text.now (parts_ledger parts)) }
     ensures err { IfErr result (λ why. why ≢ LoadError.NoMemory → Loads accepted.now text.now (Err why)) }
 {
@@ -172,8 +173,10 @@ fn opened<M: Contents + Drop>(
     }
 }
 
-// The ledger of the parts that a text told, where it may be loaded.
-fn admitted<M: Contents + Drop>(
+/// The ledger of parts that a text told, or that were made of such, where it may be loaded: its state is typed, its names
+/// of contracts have mode S, its gas is worth its deposits, and nothing of it is ready. Otherwise the first cause why not,
+/// in the order of `LoadError`.
+pub fn admitted<M: Contents + Drop>(
     alloc: Global,
     accepted: &Accepted,
     parts: LedgerParts,

@@ -1,15 +1,11 @@
 -- A mirror: what private calls know of what a text tells, and what they answer of it.
-use Rattle.std.specs.Prelude.{◌≡◌, ◌<◌, ◌≤◌, ◌^◌, ℕ, List, map, length, get_or, All, Contains, Result, Err, MatchResult}
-use Rattle.std.specs.List.Sorted.{IsStrictlySortedBy}
-use Rattle.std.specs.Ordering.{nat_cmp}
-use Rattle.nomos_contents.specs.declared.data.StateData.{StateData}
+use Rattle.std.specs.Prelude.{◌≡◌, ◌<◌, ◌≤◌, ◌^◌, ℕ, List, get_or, All, Contains, Result, Err, MatchResult}
 use Rattle.nomos_ir.specs.declared.ids.VarId.{VarId}
 use Rattle.nomos_legal.specs.Ending.{HasTransaction}
 use Rattle.nomos_legal.specs.Ledger.{Contracts, LedgerState}
-use Rattle.nomos_machine.specs.Objects.{object_number}
 use Rattle.nomos_machine.specs.Run.{NoneReady}
 use Rattle.nomos_machine.specs.State.{State, gas_of}
-use Rattle.nomos_machine.specs.TypedState.{HasVariables, IsContractName, IsTyped}
+use Rattle.nomos_machine.specs.TypedState.{IsContractName, IsTyped}
 use Rattle.nomos_machine.specs.declared.object.Object.{Object}
 use Rattle.nomos_machine.specs.declared.object.Object.TheVariants as object
 use Rattle.nomos_machine.specs.declared.object.PotentialList.{PotentialList}
@@ -38,15 +34,6 @@ pub record AreWide (objects : List Object) : Type 0 where
 abbrev pub IsWideObject : ToldObject → Type 0
 IsWideObject (told_object.Process p) = HasWide (process_told p)
 IsWideObject (told_object.Message m) = ⊥
-
--- ---- what a text gives by itself
-
--- Objects, names and the variables of each process stand in order, each once, and there are fewer than 2^31 accounts.
-pub record AreSorted (d : StateData) : Type 0 where
-  pub objects : IsStrictlySortedBy nat_cmp (map object_number d.objects)
-  pub table : IsStrictlySortedBy nat_cmp (map (λ t. t.0) d.types)
-  pub variables : All HasVariables d.objects
-  pub few : length d.balances < 2 ^ 31
 
 -- ---- what is asked of it
 
