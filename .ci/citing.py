@@ -1,4 +1,4 @@
-"""What other crates cite of a crate: its laws and definitions, the clauses of its public functions, and who calls these.
+"""What other crates cite of a crate: laws and definitions, the clauses of public functions, and who calls these.
 
 It goes by names alone: a law is cited where it is imported, a clause where `CALL.ensures.CLAUSE` stands in a proof of a
 file whose crate calls a function of that name, and a function is called where its name stands before a `(` in a file of
@@ -17,7 +17,8 @@ ENSURES = re.compile(r"\.(\w+?)(?:-[\w-]+)?\.ensures\b(?:\.([a-z]\w*))?")
 
 def read(folder, kind):
     """Gives the text of each file of a kind below a folder, by its path."""
-    return {path: path.read_text(encoding="utf-8") for path in sorted(folder.rglob(f"*.{kind}")) if "out" not in path.parts}
+    paths = (path for path in sorted(folder.rglob(f"*.{kind}")) if "out" not in path.parts)
+    return {path: path.read_text(encoding="utf-8") for path in paths}
 
 
 def imported(crate, others):
