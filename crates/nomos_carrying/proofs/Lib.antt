@@ -1,0 +1,2 @@
+mod DenseLemmas
+mod CarryLemmas
