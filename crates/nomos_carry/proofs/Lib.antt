@@ -1,0 +1,10 @@
+mod TaskLaws
+mod RenumberLaws
+mod RefusalLaws
+mod RightLaws
+mod OneDueLaws
+mod RenumberDueLaws
+mod EndLaws
+mod DeterminedLaws
+mod ClaimLaws
+mod CallLemmas
