@@ -1,15 +1,14 @@
 -- What is due where a ledger is carried on, from its parts.
-use Rattle.std.proofs.Common.{◌≡◌, ◌≢◌, ℕ, List, length, Option, Some, None, Ok, Err, refl, subst}
+use Rattle.std.proofs.Common.{◌≡◌, ℕ, List, length, Option, Some, None, Ok, refl, subst}
 use Rattle.std.specs.Prelude.{IfSome}
+use Rattle.nomos_due.specs.Finding.{HasNoLedger, IsNoLedgerOf, SavesWhole, saved, unsaved}
 use Rattle.nomos_due.specs.Outside.{HasText, Input, SourceState, input_of}
-use Rattle.nomos_due.specs.Resumes.{IsNoLedger}
 use Rattle.nomos_due.specs.Runs.{usual_orders}
-use Rattle.nomos_due.specs.Resumes as resumes
 use Rattle.nomos_due.specs.Saves as saves
 use Rattle.nomos_due.specs.Saves.{IsSaveDue}
-use Rattle.nomos_due.specs.SnapshotLines.{unloaded_line, unsaved_line}
 use Rattle.nomos_due.specs.Sources.{IsSaveDueFor, kept_text}
 use Rattle.nomos_due.specs.declared.due.Due.{Due}
+use Rattle.nomos_due.specs.declared.resumes.NoLedger.{NoLedger}
 use Rattle.nomos_due.proofs.SourceLemmas.{some_text}
 use Rattle.nomos_legal.specs.Ledger.{LedgerState, empty_ledger}
 use Rattle.nomos_legal.specs.StandsFor.{StandsFor}
@@ -21,45 +20,19 @@ use Rattle.nomos_run.specs.declared.orders.WholeRun.{WholeRun}
 use Rattle.nomos_run.proofs.CarriedLaws.{whole-tells}
 use Rattle.nomos_script.specs.declared.item.ScriptItem.{ScriptItem}
 use Rattle.nomos_snapshot.specs.Loading.{Loads}
-use Rattle.nomos_snapshot.specs.Saving.{Saves}
-use Rattle.nomos_snapshot.specs.declared.error.LoadError.{LoadError}
-use Rattle.nomos_snapshot.specs.declared.error.LoadError.TheVariants as load_error
-use Rattle.nomos_snapshot.specs.declared.error.SaveError.{SaveError}
-use Rattle.nomos_snapshot.specs.declared.error.SaveError.TheVariants as save_error
 use Rattle.nomos_types.specs.Acceptance.{Acceptance}
 use Rattle.nomos_carrying.specs.CarryDue.{BeginsFrom, HasCarried, IsCarryDue}
 use Rattle.nomos_carrying.specs.CarryDue as due
 use Rattle.nomos_carrying.specs.CarrySources.{IsBeginDueFor, IsCarryDueFor}
-use Rattle.nomos_carrying.specs.mirror.Carrying.{GoesOnBy, RunsOn, SavesNext, no_script, ran_on, saved, unsaved}
-use Rattle.nomos_carrying.specs.declared.stop.Stop.{Stop}
-use Rattle.nomos_carrying.specs.declared.stop.Stop.TheVariants as stop
-use Rattle.nomos_carrying.specs.mirror.Stopping.{IsDueBy, StopsBy, StopsWith, told_due}
-
--- ---- what is not loaded, and what is not saved
-
--- a text that is not loaded
-pub unloaded-by : {a : Acceptance} (input : Input) (why : LoadError) (s : Stop)
-    → (why ≢ load_error.NoMemory → Loads a input.text (Err why)) → StopsWith 11 (unloaded_line why) s
-    → (why ≡ load_error.NoMemory → s ≡ stop.NoMemory) → StopsBy (IsNoLedger a input) s
-unloaded-by input why (stop.Told d) loads so wants = record {
-  is = rw (so.status_is, so.text_is) (resumes.refused why (loads (λ e. cc (wants e))));
-  nothing_kept = so.nothing_kept;
-}
-unloaded-by input why stop.NoMemory loads so wants = tt
-
--- a ledger that is not saved
-pub next-unsaved : {a : Acceptance} {journal : Journal} {report : List ℕ} {last : LedgerState} (why : SaveError) (s : Stop)
-    → (why ≢ save_error.NoMemory → Saves a last (Err why)) → StopsWith 11 (unsaved_line why) s
-    → (why ≡ save_error.NoMemory → s ≡ stop.NoMemory) → IfSome (told_due s) (SavesNext a journal report last)
-next-unsaved why (stop.Told d) never so wants = unsaved why (never (λ e. cc (wants e))) so
-next-unsaved why stop.NoMemory never so wants = tt
+use Rattle.nomos_carrying.specs.mirror.Carrying.{GoesOnBy, RunsOn, not_read, ran_on}
+use Rattle.nomos_carrying.proofs.NoLedgerLemmas.{none-is}
 
 -- ---- a run
 
 -- a run of all items from a ledger, whose last ledger is to be saved
 pub runs-on : {M : Type 0} {a : Acceptance} {first : LedgerState} {items : List ScriptItem} {made : ScriptRun M}
     (whole : WholeRun M) → RunsScriptFrom a first items usual_orders made → made.finished ≡ Some whole → (d : Due)
-    → SavesNext a made.journal whole.report.items whole.ledger d → RunsOn a first items d
+    → SavesWhole a made.journal whole.report.items whole.ledger d → RunsOn a first items d
 runs-on {a = a} {items = items} {made} whole runs finished d saves =
     let all : IfSome (Some whole)
     (λ f. (runs.count ≡ length items) × IsWholeRun a usual_orders runs.passages runs.last f) = rw finished at runs.all in
@@ -71,8 +44,8 @@ runs-on {a = a} {items = items} {made} whole runs finished d saves =
       run = record { limit = runs.limit; tells = whole-tells runs whole finished; follows = runs.follows };
       stands = subst (StandsFor a) told.ledger told.stands;
       whole =
-          subst (λ (l : LedgerState). SavesNext a made.journal (report_of a runs.passages) l d) told.ledger
-          (subst (λ (text : List ℕ). SavesNext a made.journal text whole.ledger d) told.report saves);
+          subst (λ (l : LedgerState). SavesWhole a made.journal (report_of a runs.passages) l d) told.ledger
+          (subst (λ (text : List ℕ). SavesWhole a made.journal text whole.ledger d) told.report saves);
     }
 
 -- ---- what is due
@@ -84,7 +57,7 @@ pub record IsDueOn (a : Acceptance) (snapshot : Option Input) (script : SourceSt
   pub is : IsCarryDue a snapshot (input_of script text) d.status d.out.items (kept_text d)
 
 -- what is due of a script, run from the ledger at which it begins
-pub goes-on : {a : Acceptance} {first : LedgerState} {script : SourceState} (snapshot : Option Input) (d : Due)
+goes-on : {a : Acceptance} {first : LedgerState} {script : SourceState} (snapshot : Option Input) (d : Due)
     → BeginsFrom a snapshot first → GoesOnBy a first script d → IsDueOn a snapshot script d
 goes-on {a} {first} {script} snapshot d begins (ran_on text items told reads run) =
     record { text = text; told = told; is = by run.whole }
@@ -98,19 +71,18 @@ goes-on {a} {first} {script} snapshot d begins (ran_on text items told reads run
       run = run.run;
       stands = run.stands;
     }
-
-    by : SavesNext a run.journal (report_of a run.passages) run.last d
+    by : SavesWhole a run.journal (report_of a run.passages) run.last d
         → IsCarryDue a snapshot (input_of script text) d.status d.out.items (kept_text d)
-    by (saved next written loads status out kept) =
+    by (saved next written loads status out kept journal) =
         rw (status, out, kept) (due.carried run.journal run.passages run.last next has written loads)
-    by (unsaved why never line) =
-        rw (line.status_is, line.text_is, line.nothing_kept)
+    by (unsaved why never bare) =
+        rw (bare.status_is, bare.text_is, bare.nothing_kept)
         (due.unsaved run.journal run.passages run.last why has never)
-goes-on {a} {first} {script} snapshot d begins (no_script text status out told is line) =
+goes-on {a} {first} {script} snapshot d begins (not_read text told bare) =
     record {
       text = text;
       told = told;
-      is = rw (line.status_is, line.text_is, line.nothing_kept) (due.no_script first status out begins is);
+      is = rw bare.nothing_kept (due.no_script first d.status d.out.items begins bare.is);
     }
 
 -- the same from the ledger of a snapshot
@@ -128,16 +100,18 @@ carries-on {a} {first} {snapshot} {script} text d told loads goes =
     }
 
 -- no ledger to begin at
-pub stops-before : {a : Acceptance} {snapshot script : SourceState} (text : List ℕ) (d : Due)
-    → HasText snapshot.left text → IsDueBy (IsNoLedger a (input_of snapshot text)) d → IsCarryDueFor a snapshot script d
-stops-before {a} {snapshot} {script} text d told by =
+pub stops-before : {a : Acceptance} {snapshot script : SourceState} (text : List ℕ) (why : NoLedger) (d : Due)
+    → HasText snapshot.left text → IsNoLedgerOf a (input_of snapshot text) why → HasNoLedger why d
+    → IsCarryDueFor a snapshot script d
+stops-before {a} {snapshot} {script} text why d told of none =
     let t = some_text script.left in
+    let is = none-is (input_of snapshot text) why d of none in
     record {
       snapshot_text = text;
       snapshot_told = told;
       script_text = t.0;
       script_told = t.1;
-      is = rw by.nothing_kept (due.no_ledger (input_of snapshot text) d.status d.out.items refl by.is);
+      is = rw is.nothing_kept (due.no_ledger (input_of snapshot text) d.status d.out.items refl is.is);
     }
 
 -- what is due where a ledger is saved is due where it is carried on from the empty one

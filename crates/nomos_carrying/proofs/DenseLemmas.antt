@@ -1,27 +1,34 @@
 -- Numbers that ascend, made dense, and what stays of objects and contracts whose numbers are.
-use Rattle.std.proofs.Common.{◌≡◌, ◌≢◌, ◌∙◌, ◌+◌, ◌<◌, ◌≤◌, ℕ, zero, suc, List, [], ◌∷◌, map, length, get_or, All, AllPairs, Option, Some, None, sum_by, true, false, ltb, refl, ap, sym, subst, arith}
+use Rattle.std.proofs.Common.{◌≡◌, ◌≢◌, ◌∙◌, ◌+◌, ◌<◌, ◌≤◌, ◌++◌, Bool, cond, find, slice_get, take, ℕ, zero, suc, List, [], ◌∷◌, map, length, get_or, All, AllPairs, Option, Some, None, sum_by, true, false, ltb, refl, ap, sym, subst, arith}
 use Rattle.std.specs.List.{filter}
 use Rattle.std.specs.List.Sorted.{IsPartitionPoint, IsStrictlySortedBy}
 use Rattle.std.specs.Option.{option_map}
 use Rattle.std.specs.Ordering.{nat_cmp}
 use Rattle.std.proofs.lemmas.Bool.{le-ltb, lt-ltb}
-use Rattle.std.proofs.lemmas.List.{get_or-map, get_or_default, length-map}
-use Rattle.std.proofs.lemmas.List.Elements.{All-map, All-weaker}
+use Rattle.std.specs.Str.{bytes_eq}
+use Rattle.std.proofs.lemmas.List.{get_or-map, get_or-take, get_or_default, length-map, length-take, map_more}
+use Rattle.std.proofs.lemmas.Option.{get_or_from_slice_get, slice_get_within}
+use Rattle.std.proofs.lemmas.Slice.Eq.{bytes_eq-Decides}
+use Rattle.std.proofs.lemmas.List.Elements.{All-head, All-map, All-tail, All-weaker}
 use Rattle.std.proofs.lemmas.List.Sums.{sum_by-cons}
 use Rattle.std.proofs.lemmas.Map.Keys.{below_from_sorted, non_decreasing_from_sorted, sorted_from_strictly_increasing}
 use Rattle.nomos_ir.specs.Bindings.{bound_to, each_bound}
 use Rattle.nomos_ir.specs.declared.ids.TypeId.{TypeId}
 use Rattle.nomos_ir.proofs.MappedLaws.{each-ascending, each-bound}
-use Rattle.nomos_legal.specs.Ledger.{Contracts}
+use Rattle.nomos_contents.specs.declared.data.StateData.{StateData}
+use Rattle.nomos_legal.specs.Ledger.{AreNamed, Contracts, LedgerState, shared_name}
 use Rattle.nomos_machine.specs.Objects.{object_number, purse_of}
 use Rattle.nomos_machine.specs.State.{NameTypes}
 use Rattle.nomos_machine.specs.TypedState.{HasVariables, VariablesDiffer}
 use Rattle.nomos_machine.specs.declared.object.Object.{Object}
 use Rattle.nomos_machine.specs.declared.object.Object.TheVariants as object
 use Rattle.nomos_machine.specs.declared.object.Process.{Process}
+use Rattle.nomos_script.specs.ScriptNames.{IsScriptName}
+use Rattle.nomos_snapshot.specs.Told.{AreSorted, parts_ledger}
+use Rattle.nomos_snapshot.specs.declared.parts.LedgerParts.{LedgerParts}
 use Rattle.nomos_types.specs.Judgement.{count_one}
-use Rattle.nomos_carrying.specs.Renumbered.{MakesDense, object_by, process_by}
-use Rattle.nomos_carrying.specs.mirror.Dense.{place_in}
+use Rattle.nomos_carrying.specs.Renumbered.{IsRenumbered, MakesDense, ledger_by, object_by, process_by}
+use Rattle.nomos_carrying.specs.mirror.Dense.{AreNumbersOf, NumberLists, place_in}
 
 -- ---- places
 
@@ -121,17 +128,123 @@ module _ (objects names : ℕ → ℕ) where
       (All-weaker HasVariables (λ (o : Object). HasVariables (object_by objects names o)) variables-by os differ)
 
 module _ (names : ℕ → ℕ) where
-  pub names-by : (types : NameTypes) → map (λ t. t.0) (map (λ t. (names t.0, t.1)) types) ≡ map names (map (λ t. t.0) types)
+  pub names-by : (types : NameTypes) → map (λ (t : ℕ × TypeId). t.0) (map (λ (t : ℕ × TypeId). (names t.0, t.1)) types)
+      ≡ map names (map (λ (t : ℕ × TypeId). t.0) types)
   names-by [] = refl
-  names-by (t ∷ types) = rw (names-by types)
+  names-by (t ∷ types) = ap (λ (ns : List ℕ). names t.0 ∷ ns) (names-by types)
+
+  -- a contract with another number in place of its own
+  abbrev contract-by : List ℕ × ℕ → List ℕ × ℕ
+  contract-by c = (c.0, names c.1)
 
   -- contracts keep their names
-  pub contracts-differ : (cs : Contracts) → AllPairs (λ c d. c.0 ≢ d.0) cs
-      → AllPairs (λ c d. c.0 ≢ d.0) (map (λ c. (c.0, names c.1)) cs)
+  pub contracts-differ : (cs : Contracts) → AllPairs (λ (c d : List ℕ × ℕ). c.0 ≢ d.0) cs
+      → AllPairs (λ (c d : List ℕ × ℕ). c.0 ≢ d.0) (map (λ (c : List ℕ × ℕ). (c.0, names c.1)) cs)
   contracts-differ cs differ i j d low high =
-      let long = length-map cs (λ (c : List ℕ × ℕ). (c.0, names c.1)) in
+      let long = length-map cs contract-by in
       let within : j < length cs = omega arith in
-      rw (
-        get_or-map (λ (c : List ℕ × ℕ). (c.0, names c.1)) cs i d d (omega arith),
-        get_or-map (λ (c : List ℕ × ℕ). (c.0, names c.1)) cs j d d within,
-      ) (differ i j d low within)
+      let first = ap (λ (c : List ℕ × ℕ). c.0) (get_or-map contract-by cs i d d (omega arith)) in
+      let second = ap (λ (c : List ℕ × ℕ). c.0) (get_or-map contract-by cs j d d within) in
+      λ same. differ i j d low within (sym first ∙ same ∙ second)
+
+  -- ---- contracts, one after another
+
+  -- where no contract has the name, none is found
+  shared-none : (cs : Contracts) (name : List ℕ) → All (λ (c : List ℕ × ℕ). c.0 ≢ name) cs → shared_name cs name ≡ None
+  shared-none [] name other = refl
+  shared-none (c ∷ cs) name other =
+      let first : c.0 ≢ name = All-head (λ (d : List ℕ × ℕ). d.0 ≢ name) c cs other in
+      by (bytes_eq c.0 name) (λ same. first ((bytes_eq-Decides c.0 name).0 same))
+      (shared-none cs name (All-tail (λ (d : List ℕ × ℕ). d.0 ≢ name) c cs other))
+    where
+      by : (t : Bool) → (t ≢ true) → shared_name cs name ≡ None
+          → option_map (λ (d : List ℕ × ℕ). d.1) (cond t (Some c) (find (λ (d : List ℕ × ℕ). bytes_eq d.0 name) cs)) ≡ None
+      by true never rest = absurd (never refl)
+      by false never rest = rest
+
+  -- the next one has a name of its own
+  pub contract-new : (cs : Contracts) (k : ℕ) (pair : List ℕ × ℕ) → AllPairs (λ (c d : List ℕ × ℕ). c.0 ≢ d.0) cs
+      → Some pair ≡ slice_get cs k → shared_name (map contract-by (take k cs)) pair.0 ≡ None
+  contract-new cs k pair differ found =
+      let within = slice_get_within cs k pair (sym found) in
+      let there = get_or_from_slice_get cs k pair pair (sym found) in
+      shared-none (map contract-by (take k cs)) pair.0
+      (All-map (λ (c : List ℕ × ℕ). c.0 ≢ pair.0) contract-by (take k cs)
+      (λ j d below.
+      let short : j < k = omega (arith, below, length-take k cs) in
+      let own = ap (λ (c : List ℕ × ℕ). c.0) (get_or-take k cs j d short) in
+      let last = ap (λ (c : List ℕ × ℕ). c.0) (get_or_default cs k d pair within ∙ there) in
+      λ same. differ j k d short within (sym own ∙ same ∙ sym last)))
+
+  pub contract-more : (cs : Contracts) (k : ℕ) (pair : List ℕ × ℕ) → Some pair ≡ slice_get cs k
+      → map contract-by (take (k + 1) cs) ≡ map contract-by (take k cs) ++ contract-by pair ∷ []
+  contract-more cs k pair found =
+      map_more contract-by cs k pair (slice_get_within cs k pair (sym found))
+      ∙ ap (λ (c : List ℕ × ℕ). map contract-by (take k cs) ++ contract-by c ∷ [])
+      (get_or_from_slice_get cs k pair pair (sym found))
+
+-- it has a name that a script may have
+pub contract-named : (cs : Contracts) (k : ℕ) (pair : List ℕ × ℕ) → All (λ (c : List ℕ × ℕ). IsScriptName c.0) cs
+    → Some pair ≡ slice_get cs k → IsScriptName pair.0
+contract-named cs k pair names found =
+    subst (λ (c : List ℕ × ℕ). IsScriptName c.0) (get_or_from_slice_get cs k pair pair (sym found))
+    (names k pair (slice_get_within cs k pair (sym found)))
+
+-- ---- parts
+
+-- parts that are made so are those of the renumbered ledger
+pub parts-renumbered : (parts made : LedgerParts) (n : NumberLists) → AreSorted parts.contents
+    → AreNumbersOf parts.contents n
+    → parts_ledger made ≡ ledger_by (place_in n.objects) (place_in n.names) (parts_ledger parts)
+    → IsRenumbered (parts_ledger parts) (parts_ledger made)
+parts-renumbered parts made n sorted are is =
+    let objects : IsStrictlySortedBy nat_cmp n.objects =
+    subst (IsStrictlySortedBy nat_cmp) (sym are.objects_are) sorted.objects in
+    let names : IsStrictlySortedBy nat_cmp n.names =
+    subst (IsStrictlySortedBy nat_cmp) (sym are.names_are) sorted.table in
+    record {
+      objects = place_in n.objects;
+      names = place_in n.names;
+      objects_dense = subst (MakesDense (place_in n.objects)) are.objects_are (places-dense n.objects objects);
+      names_dense = subst (MakesDense (place_in n.names)) are.names_are (places-dense n.names names);
+      is = is;
+    }
+
+-- they stand in order, as the others did
+pub parts-sorted : (parts made : LedgerParts) → AreSorted parts.contents
+    → IsRenumbered (parts_ledger parts) (parts_ledger made) → AreSorted made.contents
+parts-sorted parts made sorted r =
+    let before = parts.contents in
+    let objects = ap (λ (l : LedgerState). l.state.objects) r.is in
+    let numbers = ap (map object_number) objects ∙ numbers-by r.objects r.names before.objects in
+    let names = ap (λ (l : LedgerState). map (λ (t : ℕ × TypeId). t.0) l.state.types) r.is
+    ∙ names-by r.names before.types in
+    let balances = ap (λ (l : LedgerState). length l.state.balances) r.is in
+    record {
+      objects =
+          subst (IsStrictlySortedBy nat_cmp) (sym numbers)
+          (dense-ascends r.objects (map object_number before.objects) r.objects_dense);
+      table =
+          subst (IsStrictlySortedBy nat_cmp) (sym names)
+          (dense-ascends r.names (map (λ (t : ℕ × TypeId). t.0) before.types) r.names_dense);
+      variables =
+          subst (All HasVariables) (sym objects) (all-variables r.objects r.names before.objects sorted.variables);
+      few = omega (arith, balances, sorted.few);
+    }
+
+-- and no two accounts or contracts have one name
+pub parts-named : (parts made : LedgerParts) → AreNamed parts.accounts parts.contracts parts.contents.balances
+    → IsRenumbered (parts_ledger parts) (parts_ledger made)
+    → AreNamed made.accounts made.contracts made.contents.balances
+parts-named parts made named r =
+    let accounts : made.accounts ≡ parts.accounts = ap (λ (l : LedgerState). l.accounts) r.is in
+    let contracts = ap (λ (l : LedgerState). l.contracts) r.is in
+    let balances : made.contents.balances ≡ parts.contents.balances = ap (λ (l : LedgerState). l.state.balances) r.is in
+    record {
+      few = rw accounts named.few;
+      each_account = rw (accounts, balances) named.each_account;
+      accounts_differ = rw accounts named.accounts_differ;
+      contracts_differ =
+          subst (AllPairs (λ (c d : List ℕ × ℕ). c.0 ≢ d.0)) (sym contracts)
+          (contracts-differ r.names parts.contracts named.contracts_differ);
+    }

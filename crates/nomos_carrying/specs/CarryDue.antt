@@ -51,7 +51,7 @@ pub data IsCarryDue (a : Acceptance) (snapshot : Option Input) (script : Input)
 
 -- ---- next numbers
 
--- the next number from which on a renumbering is due
+-- half of the highest next number that a snapshot may have: from it on a renumbering is due
 abbrev pub half_of_numbers : ℕ
 half_of_numbers = 2 ^ 30
 
@@ -59,13 +59,15 @@ half_of_numbers = 2 ^ 30
 abbrev pub IsRenumberingDue : ℕ → ℕ → Type 0
 IsRenumberingDue object name = (half_of_numbers ≤ object) ⊎ (half_of_numbers ≤ name)
 
--- what is told of the next numbers
+-- the line of the numbers that the next object and the next name will have
+abbrev pub next_numbers : ℕ → ℕ → List ℕ
+next_numbers object name = line (codes "next " ++ decimal object ++ codes " " ++ decimal name)
+
+-- What is told of the next numbers: their line, and where a renumbering is due one more.
 pub data TellsNumbers (object name : ℕ) : List ℕ → Type 0 where
-  numbers_low : ¬ (IsRenumberingDue object name)
-      → TellsNumbers object name (line (codes "next " ++ decimal object ++ codes " " ++ decimal name))
+  numbers_low : ¬ (IsRenumberingDue object name) → TellsNumbers object name (next_numbers object name)
   numbers_high : IsRenumberingDue object name
-      → TellsNumbers object name
-      (line (codes "next " ++ decimal object ++ codes " " ++ decimal name) ++ line (codes "renumbering is due"))
+      → TellsNumbers object name (next_numbers object name ++ line (codes "renumbering is due"))
 
 -- What is due where the next numbers of a saved ledger are told: a status, and what is to be written.
 pub data IsNumbersDue (a : Acceptance) (snapshot : Input) : ℕ → List ℕ → Type 0 where

@@ -75,7 +75,8 @@ ledger_by objects names l = record l {
 pub record MakesDense (f : ℕ → ℕ) (numbers : List ℕ) : Type 0 where
   pub each : (k : ℕ) → k < length numbers → f (slice_index numbers k) ≡ k + 1
 
--- The second ledger is the first with its objects, and its names, numbered 1, 2, 3 and so on, in the same order.
+-- The second ledger is the first with its objects, and its names, numbered 1, 2, 3 and so on, in the same order. In a
+-- ledger that is loaded each name that stands anywhere has a type, so there is one such ledger.
 pub record IsRenumbered (l m : LedgerState) : Type 0 where
   pub objects : ℕ → ℕ
   pub names : ℕ → ℕ

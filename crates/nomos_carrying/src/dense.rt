@@ -1,6 +1,6 @@
 //! Numbers that are made dense: 1, 2, 3 and so on, in the order in which they stand.
 
-ghost use Rattle.std.specs.Prelude.{◌≡◌, ◌≢◌, ◌-◌, ◌<◌, ◌^◌, AllPairs, IfOk, length, map};
+ghost use Rattle.std.specs.Prelude.{◌≡◌, ◌≢◌, ◌≤◌, ◌^◌, AllPairs, IfOk, length, map};
 ghost use Rattle.std.specs.List.Sorted.{IsStrictlySortedBy};
 ghost use Rattle.std.specs.Option.{option_map};
 ghost use Rattle.std.specs.Ordering.{nat_cmp};
@@ -10,7 +10,7 @@ ghost use Rattle.nomos_legal.specs.Ledger.{AreNamed};
 ghost use Rattle.nomos_machine.specs.Objects.{object_number};
 ghost use Rattle.nomos_snapshot.specs.Told.{AreSorted, parts_ledger};
 ghost use Rattle.nomos_carrying.specs.Renumbered.{IsRenumbered, ledger_by, message_by, object_by, payload_by, process_by, state_by};
-ghost use Rattle.nomos_carrying.specs.mirror.Dense.{AreNumbersOf, place_in};
+ghost use Rattle.nomos_carrying.specs.mirror.Dense.{AreFew, AreNumbersOf, place_in};
 
 use nomos_contents::data::StateData;
 use nomos_ir::ids::TypeId;
@@ -22,7 +22,7 @@ use nomos_snapshot::parts::LedgerParts;
 use std::alloc::{AllocError, Global};
 use std::marker::Model;
 
-/// The numbers of the objects of a ledger, and its names, each in ascending order, and fewer than 2^32 - 1 of each.
+// The numbers of the objects of a ledger, and its names, each in ascending order, and at most 2^31 of each.
 #[derive(Drop)]
 struct Numbers {
     objects: Vec<u32>,
@@ -74,7 +74,7 @@ fn names_of(alloc: Global, types: &[(u32, TypeId)]) -> Result<Vec<u32>, AllocErr
 // The place of a number among these, from 1 on: one more than there are smaller ones.
 fn place_in(numbers: &[u32], number: u32) -> u32
     requires sorted { IsStrictlySortedBy nat_cmp numbers.now }
-    requires few { length numbers.now < 2 ^ 32 - 1 }
+    requires few { length numbers.now ≤ 2 ^ 31 }
     ensures { result ≡ place_in numbers.now number }
 {
     let smaller = numbers.partition_point(|other| *other < number);
@@ -82,18 +82,14 @@ fn place_in(numbers: &[u32], number: u32) -> u32
 }
 
 impl Numbers {
-    // The numbers of a state, whose objects and names stand in order. More than 32 bits count, less one, are want of
-    // memory.
+    // The numbers of a state.
     fn of(alloc: Global, contents: &StateData) -> Result<Numbers, AllocError>
-        requires objects { IsStrictlySortedBy nat_cmp (map object_number contents.now.objects) }
-        requires names { IsStrictlySortedBy nat_cmp (map (λ t. t.0) contents.now.types) }
+        requires sorted { AreSorted contents.now }
+        requires few { AreFew contents.now }
         ensures { IfOk result (AreNumbersOf contents.now) }
     {
         let objects = numbers_of(alloc, contents.objects.as_slice())?;
         let names = names_of(alloc, contents.types.as_slice())?;
-        if objects.len() >= u32::MAX as usize || names.len() >= u32::MAX as usize {
-            return Err(AllocError);
-        }
         Ok(Numbers { objects, names })
     }
 
@@ -272,6 +268,7 @@ impl Numbers {
 /// order in which they stand. Accounts, values and gas stay.
 pub(crate) fn dense_parts(alloc: Global, parts: LedgerParts) -> Result<LedgerParts, AllocError>
     requires sorted { AreSorted parts.contents }
+    requires few { AreFew parts.contents }
     requires named { AreNamed parts.accounts parts.contracts parts.contents.balances }
     ensures dense { IfOk result (λ made. IsRenumbered (parts_ledger parts) (parts_ledger made)) }
     ensures sorted { IfOk result (λ made. AreSorted made.contents) }

@@ -1,9 +1,9 @@
 //! The next numbers of a ledger, and whether they are to be made small again.
 
-ghost use Rattle.std.specs.Prelude.{◌≡◌, ◌↔◌, ◌++◌, IfOk, IfSome, IsTrue, None, codes, decimal};
+ghost use Rattle.std.specs.Prelude.{◌≡◌, ◌↔◌, ◌++◌, IfOk, IfSome, IsTrue, None, codes};
 ghost use Rattle.nomos_due.specs.Outside.{source_state};
 ghost use Rattle.nomos_report.specs.Lines.{line};
-ghost use Rattle.nomos_carrying.specs.CarryDue.{IsRenumberingDue, TellsNumbers};
+ghost use Rattle.nomos_carrying.specs.CarryDue.{IsRenumberingDue, TellsNumbers, next_numbers};
 ghost use Rattle.nomos_carrying.specs.CarrySources.{IsNumbersDueFor};
 ghost use Rattle.nomos_carrying.specs.mirror.Renumbering.{TellsNextOf};
 
@@ -29,8 +29,7 @@ fn is_renumbering_due(object: u32, name: u32) -> bool
 
 // The line of the next numbers.
 fn next_line(alloc: Global, object: u32, name: u32) -> Result<Vec<u8>, AllocError>
-    ensures { IfOk result (λ text. text.items
-        ≡ line (codes "next " ++ decimal object ++ codes " " ++ decimal name)) }
+    ensures { IfOk result (λ text. text.items ≡ next_numbers object name) }
 {
     let mut text = Vec::from_slice(alloc, b"next ")?;
     push_number(&mut text, u64::from(object))?;
@@ -40,14 +39,23 @@ fn next_line(alloc: Global, object: u32, name: u32) -> Result<Vec<u8>, AllocErro
     Ok(text)
 }
 
+// The text with a line that says that a renumbering is due.
+fn with_warning(text: Vec<u8>) -> Result<Vec<u8>, AllocError>
+    ensures { IfOk result (λ made. made.items ≡ text.items ++ line (codes "renumbering is due")) }
+{
+    let mut text = text;
+    text.extend_from_slice(b"renumbering is due\n")?;
+    Ok(text)
+}
+
 // The line of the next numbers; and where one of them is half of what a snapshot may have or more, a line that says that
 // a renumbering is due.
 fn numbers_text(alloc: Global, object: u32, name: u32) -> Result<Vec<u8>, AllocError>
     ensures { IfOk result (λ text. TellsNumbers object name text.items) }
 {
-    let mut text = next_line(alloc, object, name)?;
+    let text = next_line(alloc, object, name)?;
     if is_renumbering_due(object, name) {
-        text.extend_from_slice(b"renumbering is due\n")?;
+        return with_warning(text);
     }
     Ok(text)
 }

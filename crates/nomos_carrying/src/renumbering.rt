@@ -50,9 +50,14 @@ fn loaded_parts<M: Contents + Drop>(
     ensures ok { IfOk result (HasParts accepted.now text.now) }
     ensures err { IfErr result (λ why. why ≢ LoadError.NoMemory → NotRenumbered accepted.now text.now why) }
 {
-    // It is asked whether the text is loaded; its parts are told once more.
-    drop(load::<M>(alloc, accepted, text)?);
-    parts_told(alloc, accepted, text)
+    match load::<M>(alloc, accepted, text) {
+        Ok(ledger) => {
+            // That there is a ledger was asked; its parts are told once more.
+            drop(ledger);
+            parts_told(alloc, accepted, text)
+        }
+        Err(why) => Err(why),
+    }
 }
 
 // The ledger of a text, renumbered, where it may be loaded.
@@ -64,9 +69,11 @@ fn renumbered<M: Contents + Drop>(
     ensures ok { IfOk result (HasRenumbered accepted.now text.now) }
     ensures err { IfErr result (λ why. why ≢ LoadError.NoMemory → NotRenumbered accepted.now text.now why) }
 {
-    let parts = loaded_parts::<M>(alloc, accepted, text)?;
-    let parts = dense_parts(alloc, parts)?;
-    admitted(alloc, accepted, parts)
+    // Where the program is read it is known to be accepted.
+    let _program = accepted.program();
+    let told = loaded_parts::<M>(alloc, accepted, text)?;
+    let dense = dense_parts(alloc, told)?;
+    admitted(alloc, accepted, dense)
 }
 
 // What is due of a ledger that is not saved, unless memory was wanting.
@@ -118,8 +125,9 @@ fn text_due<M: Contents + Drop>(alloc: Global, accepted: &Accepted, text: &[u8])
 }
 
 /// What is due where the ledger of the snapshot that a source has is renumbered: its objects, and its names, have the
-/// numbers 1, 2, 3 and so on in the order in which they stand, and the next numbers are told. Nothing is due where memory
-/// is wanting. See docs/LEDGER.md, "When to renumber".
+/// numbers 1, 2, 3 and so on in the order in which they stand, the next numbers are told, and its snapshot is kept. Where
+/// there is no ledger, or the renumbered one is not admitted or not saved, the cause is told and nothing is kept. Nothing
+/// is due where memory is wanting. See docs/LEDGER.md, "When to renumber".
 pub fn renumber_due<M: Contents + Drop, S: Source>(
     alloc: Global,
     accepted: &Accepted,

@@ -1,13 +1,13 @@
-use Rattle.nomos_due.specs.Outside.{source_state}
 use Rattle.nomos_due.proofs.SourceLemmas.{told-same}
 use Rattle.nomos_carrying.proofs.CarryLemmas.{carries-on, stops-before}
-use Rattle.nomos_carrying.proofs.StopLemmas.{if_some-map, told-due}
+use Rattle.nomos_carrying.proofs.NoLedgerLemmas.{if_ok-some}
 use Rattle.nomos_carrying.proofs.carrying.carry_due.Goals as goal
 
 pub returns-in-Ok-clause-due : goal.returns-in-Ok-clause-due
 returns-in-Ok-clause-due g c =
     let f = c.in-Ok.ensures.finds in
-    if_some-map c.carried_due.result _ _ (λ due goes. carries-on f.0 due f.1 f.2 goes) c.carried_due.ensures
+    rw c.ok.ensures.value
+    (if_ok-some c.carried_due.result _ _ (λ due goes. carries-on f.0 due f.1 f.2 goes) c.carried_due.ensures)
 
 pub returns-in-Ok-clause-unread : goal.returns-in-Ok-clause-unread
 returns-in-Ok-clause-unread g c = λ text left never.
@@ -18,5 +18,6 @@ returns-in-Ok-clause-unread g c = λ text left never.
 pub returns-in-Err-clause-due : goal.returns-in-Err-clause-due
 returns-in-Err-clause-due g c =
     let f = c.in-Err.ensures.finds in
-    rw c.due_of.ensures
-    (if_some-map _ _ _ (λ due by. stops-before f.0 due f.1 by) (told-due c.in-Err.stop f.2))
+    rw c.ok-in-Err.ensures.value
+    (if_ok-some c.no_ledger_due.result _ _ (λ due none. stops-before f.0 c.in-Err.why due f.1 f.2 none)
+    c.no_ledger_due.ensures.ok)

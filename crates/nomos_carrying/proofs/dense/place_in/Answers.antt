@@ -1,5 +1,5 @@
 -- The first number that is not smaller.
-use Rattle.std.proofs.Common.{ltb, rules}
+use Rattle.std.proofs.Common.{ltb, rules, sym}
 use Rattle.std.proofs.lemmas.List.Sorted.{IsPartitionPoint-from_clause, IsPartitionedBy-ltb}
 use Rattle.std.proofs.lemmas.Map.Keys.{non_decreasing_from_sorted}
 use Rattle.nomos_carrying.proofs.DenseLemmas.{point-place}
@@ -9,6 +9,6 @@ pub returns : goal.returns
 returns c =
     let numbers = c.args.numbers.now in
     let parted = IsPartitionedBy-ltb (λ y. y) numbers c.args.number (non_decreasing_from_sorted numbers c.requires.sorted) in
-    let point = IsPartitionPoint-from_clause (λ y. ltb y c.args.number) _ _ c.partition_point.ensures.partitioned parted
+    let point = IsPartitionPoint-from_clause (λ y. ltb y c.args.number) _ _ c.partition_point-smaller.ensures.partitioned parted
     (λ a r q k. search rules) in
-    point-place c.args.number numbers c.partition_point.result c.partition_point.ensures.bound point
+    sym (point-place c.args.number numbers c.partition_point-smaller.result c.partition_point-smaller.ensures.bound point)
