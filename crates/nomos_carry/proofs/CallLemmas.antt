@@ -52,9 +52,9 @@ ends-map f (errands.wanted seven out new) = errands.wanted seven out new
 -- ---- on an accepted contract
 
 module _ (a : Acceptance) (snapshot script : SourceState) (due : Due) where
-  pub begin-behind : (file words new : List ℕ) → IsBeginDueFor a script due
-      → IsDueBehind a (carry file None words new) snapshot script due
-  begin-behind file words new is =
+  pub begin-behind : (file : List ℕ) (from : Option (List ℕ)) (words new : List ℕ) → from ≡ None
+      → IsBeginDueFor a script due → IsDueBehind a (carry file from words new) snapshot script due
+  begin-behind file None words new none is =
       let t = some_text snapshot.left in
       record {
         snapshot_text = t.0;
@@ -63,6 +63,7 @@ module _ (a : Acceptance) (snapshot script : SourceState) (due : Due) where
         script_told = is.told;
         is = is.is;
       }
+  begin-behind file (Some word) words new none is = absurd cc
 
   pub carry-behind : (file from words new : List ℕ) → IsCarryDueFor a snapshot script due
       → IsDueBehind a (carry file (Some from) words new) snapshot script due
@@ -157,6 +158,18 @@ alone-wanting task before after snapshot script out next = record {
     | inr eight ↦ absurd (omega (arith, eight))
   ];
   out = λ seven. out;
+  next = λ unwritten. next;
+}
+
+-- what stays as it was where the contract is not accepted
+pub alone-refused : {S K : Type 0} (task : CarryTask) (status : ℕ) (before after : Edges S K)
+    → after.snapshot ≡ before.snapshot → after.script ≡ before.script → (status ≡ 7 → after.out ≡ before.out)
+    → after.next ≡ before.next → AloneFor task status before after
+alone-refused task status before after snapshot script out next = record {
+  snapshot = λ unread. snapshot;
+  script = λ unread. script;
+  refused = λ unaccepted. (snapshot, script);
+  out = out;
   next = λ unwritten. next;
 }
 

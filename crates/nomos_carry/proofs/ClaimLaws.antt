@@ -5,18 +5,17 @@ use Rattle.nomos_due.specs.Outside.{Input}
 use Rattle.nomos_due.specs.Runs.{HasRunFrom, usual_orders}
 use Rattle.nomos_due.specs.Written.{with_text}
 use Rattle.nomos_legal.specs.Ledger.{LedgerState, empty_ledger}
-use Rattle.nomos_snapshot.proofs.LoadingLaws.{loads-loaded}
 use Rattle.nomos_snapshot.specs.Text.{snapshot_text}
 use Rattle.nomos_top.specs.Headline.{GoesRightTo}
 use Rattle.nomos_top.specs.Seen.{IsDone}
 use Rattle.nomos_types.specs.Acceptance.{Acceptance, IsAccepted}
+use Rattle.nomos_carrying.proofs.RenumberedLaws.{renumbered-one}
 use Rattle.nomos_carry.specs.CarryCall.{CarryCall, CarryEndsOn, CarryInputs, CarryTexts, IsCallDue, IsDueOnAccepted, carry_inputs, snapshot_if}
 use Rattle.nomos_carry.specs.CarryClaims.{AsksForCarry, AsksForNumbers, AsksForRenumbering, CarriesOn, CarryClaims, HasPrinted, HasSaved, Renumbers, TellsNext}
 use Rattle.nomos_carry.specs.CarryWords.{AsksToCarry, CarryTask, carry, numbers, renumber}
 use Rattle.nomos_carry.proofs.DeterminedLaws.{calls-alike}
 use Rattle.nomos_carry.proofs.EndLaws as view
 use Rattle.nomos_carry.proofs.EndLaws.{CarriedView, DoneView, EndView, NumbersView, RenumberedView, carry-view, done-view, due-view, end-view, numbers-view, renumber-view, undone-done, missed-undone, words-view}
-use Rattle.nomos_carry.proofs.RenumberLaws.{renumbered-one}
 use Rattle.nomos_carry.proofs.RightLaws.{begun-right, loaded-right}
 use Rattle.nomos_carry.proofs.TaskLaws.{one-task}
 
@@ -96,7 +95,6 @@ module _ (c : CarryCall) (t : CarryTexts) where
       elim (renumber-view d.due) [
         | inl missed ↦ absurd (undone-done c.status (missed-undone c.status missed.0) (inl zero))
         | inr v ↦
-            let settled = (loads-loaded d.accepted v.loads_before).stands.settled in
             record {
               a = d.a;
               accepted = d.is;
@@ -104,7 +102,7 @@ module _ (c : CarryCall) (t : CarryTexts) where
               after = v.after;
               loads_before = v.loads_before;
               renumbered = v.is;
-              only = λ m is. renumbered-one settled.typed settled.contracts is v.is;
+              only = λ m is. renumbered-one d.accepted v.loads_before is v.is;
               saved = saved-text next _ v.next_is saved;
               loads = v.loads;
             }

@@ -1,5 +1,4 @@
 mod TaskLaws
-mod RenumberLaws
 mod RefusalLaws
 mod RightLaws
 mod OneDueLaws

@@ -1,7 +1,6 @@
 -- Of a contract that is not accepted one thing is told, and nothing of one that is.
 use Rattle.std.proofs.Common.{◌≡◌, ◌∙◌, ◌⊎◌, inl, inr, ℕ, List, Ok, Err, refl, sym, ap, subst}
 use Rattle.nomos_accept.specs.AcceptedText.{Answers, IsAcceptedAs, IsCauseOf, PivotRunEndsWith, found_amounts}
-use Rattle.nomos_accept.specs.declared.refusal.AcceptError.{AcceptError}
 use Rattle.nomos_accept.specs.declared.refusal.AcceptError.TheVariants as error
 use Rattle.nomos_accept.specs.declared.refusal.Why.{Why}
 use Rattle.nomos_due.specs.Outside.{Input}
@@ -42,11 +41,13 @@ stop-one text s u (lists, read, unsolved) (others, reads, stops) =
     cc
 
 -- a text of which an error is true is not accepted
-pub error-none : (text : List ℕ) (e : AcceptError) → Answers text (Err e) → (error.NoMemory ≡ e → ⊥) → (a : Acceptance)
-    → IsAcceptedAs text a → ⊥
-error-none text (error.Refused why) answers known a is = answers.never a.program a.annotations is.typed
-error-none text (error.Unsolved stop) answers known a is = accepted-no_stop text a stop is answers
-error-none text error.NoMemory answers known a is = known refl
+pub refused-none : (text : List ℕ) (why : Why) → Answers text (Err (error.Refused why)) → (a : Acceptance)
+    → ¬ (IsAcceptedAs text a)
+refused-none text why answers a is = answers.never a.program a.annotations is.typed
+
+pub unsolved-none : (text : List ℕ) (stop : Stop) → Answers text (Err (error.Unsolved stop)) → (a : Acceptance)
+    → ¬ (IsAcceptedAs text a)
+unsolved-none text stop answers a is = accepted-no_stop text a stop is answers
 
 -- ---- what is due
 

@@ -20,10 +20,10 @@ use Rattle.nomos_snapshot.specs.declared.error.LoadError.{LoadError}
 use Rattle.nomos_snapshot.specs.declared.error.LoadError.TheVariants as error
 use Rattle.nomos_snapshot.specs.declared.error.SaveError.{SaveError}
 use Rattle.nomos_types.specs.Acceptance.{Acceptance, IsAccepted}
+use Rattle.nomos_carrying.proofs.RenumberedLaws.{renumbered-one}
 use Rattle.nomos_carrying.specs.Renumbered as renumbering
 use Rattle.nomos_carrying.specs.Renumbered.{IsRenumberDue, IsRenumbered}
 use Rattle.nomos_carry.proofs.OneDueLaws.{OneDue, ledger-tells, no_ledger-loads, no_ledger-one, saves-one}
-use Rattle.nomos_carry.proofs.RenumberLaws.{renumbered-one}
 
 -- ---- what is answered of a ledger
 
@@ -101,9 +101,7 @@ one-renumbered : {a : Acceptance} → IsAccepted a → (x y : Input) → x.text 
 one-renumbered {a} accepted x y same l m k n loads is loads2 was =
     let both : Ok l ≡ Ok k = loads-one accepted (subst (λ (t : List ℕ). Loads a t (Ok l)) same loads) loads2 in
     let ledgers : k ≡ l = cc in
-    let settled = (loads-loaded accepted loads).stands.settled in
-    renumbered-one settled.typed settled.contracts is
-    (subst (λ (e : LedgerState). IsRenumbered e n) ledgers was)
+    renumbered-one accepted loads is (subst (λ (e : LedgerState). IsRenumbered e n) ledgers was)
 
 -- ---- what is due
 

@@ -1,5 +1,5 @@
--- What a call carries on goes right, since `nomos` would go on so: a save begins at the empty ledger, and a resume at one
--- that is loaded.
+-- What a call carries on goes right, since `nomos` would go on so: a save begins at the empty ledger, and a resume at
+-- one that is loaded.
 use Rattle.std.proofs.Common.{◌≡◌, ◌≢◌, ◌∙◌, ◌⊎◌, inl, inr, ℕ, List, [], ◌∷◌, Option, Some, None, Ok, refl, sym, subst, arith}
 use Rattle.std.specs.Prelude.{codes}
 use Rattle.nomos_accept.specs.AcceptedText.{IsAcceptedAs}

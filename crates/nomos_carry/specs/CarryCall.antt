@@ -10,8 +10,8 @@ use Rattle.nomos_carrying.specs.CarryDue.{IsCarryDue, IsNumbersDue}
 use Rattle.nomos_carrying.specs.Renumbered.{IsRenumberDue}
 use Rattle.nomos_carry.specs.CarryWords.{AskForNothing, AsksToCarry, CarryTask, carry, carry_usage, contract_word, numbers, renumber}
 
--- The words; what each source has left, where it tells that, and its counts of faults; what each sink had and has, where it
--- tells that, and its counts; and the status.
+-- The words; what each source has left, where it tells that, and its counts of faults; what each sink had and has,
+-- where it tells that, and its counts; and the status.
 pub record CarryCall : Type 0 where
   pub words : List (List ℕ)
   pub contract : SourceState

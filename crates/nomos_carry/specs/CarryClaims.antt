@@ -46,9 +46,9 @@ CarryFails c = (c.status ≡ 5) ⊎ ((c.status ≡ 6) ⊎ (c.status ≡ 7))
 
 -- ---- the ledger that is carried on
 
--- What a call did that carried a ledger on: the contract reads as a typed program; the run of the script is legal and goes
--- right, from the ledger of the snapshot to the last one; the report tells it; and what is saved is the last ledger's text,
--- and loaded as that ledger.
+-- What a call did that carried a ledger on: the contract reads as a typed program; the run of the script is legal and
+-- goes right, from the ledger of the snapshot to the last one; the report tells it; and what is saved is the last
+-- ledger's text, and loaded as that ledger.
 pub record CarriesOn (c : CarryCall) (t : CarryTexts) (snapshot : Option (List ℕ)) : Type 0 where
   pub a : Acceptance
   pub accepted : IsAcceptedAs t.contract a
@@ -56,15 +56,16 @@ pub record CarriesOn (c : CarryCall) (t : CarryTexts) (snapshot : Option (List �
   pub journal : Journal
   pub passages : List Passage
   pub last : LedgerState
-  pub carried : HasCarried a (snapshot_if snapshot (carry_inputs c t).snapshot) (carry_inputs c t).script journal passages last
+  pub carried : HasCarried a (snapshot_if snapshot (carry_inputs c t).snapshot) (carry_inputs c t).script journal
+      passages last
   pub right : GoesRightTo a carried.first passages last
   pub status : c.status ≡ run_status journal.entries
   pub printed : HasPrinted c (report_of a passages)
   pub saved : HasSaved c (snapshot_text a last)
   pub loads : Loads a (snapshot_text a last) (Ok last)
 
--- What a call did that renumbered a ledger: what is saved is the text of the one ledger to which that of the snapshot is
--- renumbered, and loaded as that ledger.
+-- What a call did that renumbered a ledger: what is saved is the text of the one ledger to which that of the snapshot
+-- is renumbered, and loaded as that ledger.
 pub record Renumbers (c : CarryCall) (t : CarryTexts) : Type 0 where
   pub a : Acceptance
   pub accepted : IsAcceptedAs t.contract a
@@ -92,7 +93,8 @@ pub record TellsNext (c : CarryCall) (t : CarryTexts) : Type 0 where
 pub record EndsAlike (c d : CarryCall) : Type 0 where
   pub status : c.status ≡ d.status
   pub out : (bytes : List ℕ) × HasPrinted c bytes × HasPrinted d bytes
-  pub next : (text : Option (List ℕ)) × (c.new.after ≡ with_text c.new.before text) × (d.new.after ≡ with_text d.new.before text)
+  pub next : (text : Option (List ℕ)) × (c.new.after ≡ with_text c.new.before text)
+      × (d.new.after ≡ with_text d.new.before text)
 
 pub record CarryClaims (c : CarryCall) : Type 0 where
   -- its words ask for one task at most
@@ -106,6 +108,7 @@ pub record CarryClaims (c : CarryCall) : Type 0 where
   pub tells : AsksForNumbers c → c.status ≡ 0 → TellsNext c texts
   -- a next snapshot is written with 0 and 3 alone, and with 6 a front of it, if anything
   pub leaves_new : ¬ (IsDone c.status) → c.status ≢ 6 → c.new.after ≡ c.new.before
-  -- Determined: each other call of these words on these texts ends alike, unless reading, writing or memory fails in one of
-  -- the two. So from one contract, one snapshot and one script there is one report and one next snapshot.
-  pub determined : (d : CarryCall) → CarryEndsOn d texts → d.words ≡ c.words → EndsAlike c d ⊎ (CarryFails c ⊎ CarryFails d)
+  -- Determined: each other call of these words on these texts ends alike, unless reading, writing or memory fails in one
+  -- of the two. So from one contract, one snapshot and one script there is one report and one next snapshot.
+  pub determined : (d : CarryCall) → CarryEndsOn d texts → d.words ≡ c.words
+      → EndsAlike c d ⊎ (CarryFails c ⊎ CarryFails d)

@@ -150,9 +150,8 @@ fn end_judged<S: Source + Drop, K: Sink + Drop>(
     match accept(alloc, &text) {
         Ok(accepted) => end_accepted(alloc, &accepted, errand, edges),
         Err(AcceptError::NoMemory) => 7,
-        Err(AcceptError::Refused(_) | AcceptError::Unsolved(_)) => {
-            end_as_check(alloc, errand.contract(), text, &mut edges.out, &mut edges.next)
-        }
+        Err(AcceptError::Refused(_)) => end_as_check(alloc, errand.contract(), text, &mut edges.out, &mut edges.next),
+        Err(AcceptError::Unsolved(_)) => end_as_check(alloc, errand.contract(), text, &mut edges.out, &mut edges.next),
     }
 }
 
@@ -181,16 +180,16 @@ fn end_asked<S: Source + Drop, K: Sink + Drop>(
     }
 }
 
-/// Does all that the program does, and gives its status (docs/LEDGER.md, "The words"): reads the words, those behind the
-/// program's own name; reads the contract and judges it; reads the snapshot, and then the script; and writes the output,
-/// and behind it, last of all, the next snapshot. Nothing is written before the last memory is taken.
+/// Does all that the program does, and gives its status (docs/LEDGER.md, "The words"): reads the words, those behind
+/// the program's own name; reads the contract and judges it; reads the snapshot, and then the script; and writes the
+/// output, and behind it, last of all, the next snapshot. Nothing is written before the last memory is taken.
 pub(crate) fn carry<S: Source + Drop, K: Sink + Drop>(
     alloc: Global,
     words: &[String],
     edges: &mut Edges<S, K>,
 ) -> u8
-    // All that is claimed of this call, on the texts of its sources: how it ends, what it does to the ledger, and that each
-    // other call of these words on these texts ends alike.
+    // All that is claimed of this call, on the texts of its sources: how it ends, what it does to the ledger, and that
+    // each other call of these words on these texts ends alike.
     ensures claims { CarryClaims (record {
       words = map string_bytes words.now;
       contract = source_state (S.left edges.old.contract) (S.faults edges.old.contract) (S.faults edges.new.contract);
@@ -203,8 +202,8 @@ pub(crate) fn carry<S: Source + Drop, K: Sink + Drop>(
       status = result;
     }) }
 
-    // What is not due stays as it was: a source before its turn, the output where memory ran out, and the file of the next
-    // snapshot where none is written.
+    // What is not due stays as it was: a source before its turn, the output where memory ran out, and the file of the
+    // next snapshot where none is written.
     ensures alone { LeavesAlone (map string_bytes words.now) result edges.old edges.new }
 {
     match errand_of(words) {

@@ -10,8 +10,8 @@ ghost use Rattle.nomos_carry.specs.mirror.Errands.{carry_task};
 /// What is to be done. Each word but the command names a file.
 #[derive(Clone, Copy, Debug)]
 pub(crate) enum Errand<'a> {
-    /// The script in the third file is run on the contract in the first, from the ledger that is saved in the second, or from
-    /// the empty one where there is none, and the last ledger is saved in the fourth.
+    /// The script in the third file is run on the contract in the first, from the ledger that is saved in the second,
+    /// or from the empty one where there is none, and the last ledger is saved in the fourth.
     Carry {
         file: &'a str,
         snapshot: Option<&'a str>,
@@ -84,8 +84,10 @@ impl<'a> Errand<'a> {
 
 /// The files that the words name: none where they ask for nothing.
 pub(crate) fn file_words(words: &[String]) -> Files<'_>
-    ensures contract { Names contract_file (map string_bytes words.now) (option_map (λ word. word.now) result.contract) }
-    ensures snapshot { Names snapshot_file (map string_bytes words.now) (option_map (λ word. word.now) result.snapshot) }
+    ensures contract { Names contract_file (map string_bytes words.now)
+        (option_map (λ word. word.now) result.contract) }
+    ensures snapshot { Names snapshot_file (map string_bytes words.now)
+        (option_map (λ word. word.now) result.snapshot) }
     ensures script { Names script_file (map string_bytes words.now) (option_map (λ word. word.now) result.script) }
     ensures new { Names new_file (map string_bytes words.now) (option_map (λ word. word.now) result.new) }
 {

@@ -1,4 +1,5 @@
-use Rattle.std.proofs.Common.{None}
+use Rattle.std.proofs.Common.{◌≡◌, ℕ, List, Option, None, Bor, ap}
+use Rattle.std.specs.Option.{option_map}
 use Rattle.nomos_due.specs.Outside.{SourceState, source_state}
 use Rattle.nomos_carrying.specs.CarrySources.{IsBeginDueFor, IsNumbersDueFor, IsRenumberDueFor}
 use Rattle.nomos_carry.specs.CarryWords.{CarryTask, carry, numbers, renumber}
@@ -14,10 +15,15 @@ returns-in-Carry-default-None-default-default-clause-due g c =
     (g.S.Source.faults c.args.snapshot.now) in
     let script : SourceState = source_state (g.S.Source.left c.args.script.now) (g.S.Source.faults c.args.script.now)
     (g.S.Source.faults c.begin_due.new.script) in
-    let task : CarryTask = carry arm.file.now None arm.script.now arm.new.now in
-    rw (arm.is, arm.snapshot-is)
+    let word : Option (Bor (List ℕ)) → Option (List ℕ) = option_map (λ (w : Bor (List ℕ)). w.now) in
+    let from : Option (List ℕ) = word arm.snapshot in
+    let empty : arm.snapshot ≡ None = arm.snapshot-is in
+    let none : from ≡ None = ap word empty in
+    let task : CarryTask = carry arm.file.now from arm.script.now arm.new.now in
+    rw arm.is
     (if_some-map c.begin_due.result (IsBeginDueFor a script) (IsDueBehind a task snapshot script)
-    (λ due is. begin-behind a snapshot script due arm.file.now arm.script.now arm.new.now is) c.begin_due.ensures)
+    (λ due is. begin-behind a snapshot script due arm.file.now from arm.script.now arm.new.now none is)
+    c.begin_due.ensures)
 
 pub returns-in-Renumber-clause-due : goal.returns-in-Renumber-clause-due
 returns-in-Renumber-clause-due g c =
@@ -30,7 +36,8 @@ returns-in-Renumber-clause-due g c =
     let task : CarryTask = renumber arm.file.now arm.snapshot.now arm.new.now in
     rw arm.is
     (if_some-map c.renumber_due.result (IsRenumberDueFor a snapshot) (IsDueBehind a task snapshot script)
-    (λ due is. renumber-behind a snapshot script due arm.file.now arm.snapshot.now arm.new.now is) c.renumber_due.ensures)
+    (λ due is. renumber-behind a snapshot script due arm.file.now arm.snapshot.now arm.new.now is)
+    c.renumber_due.ensures)
 
 pub returns-in-Numbers-clause-due : goal.returns-in-Numbers-clause-due
 returns-in-Numbers-clause-due g c =

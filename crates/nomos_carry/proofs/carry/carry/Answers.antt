@@ -7,7 +7,7 @@ use Rattle.nomos_carry.proofs.TaskLaws.{found-none}
 use Rattle.nomos_carry.proofs.carry.carry.Goals as goal
 
 pub end_asked-requires : goal.end_asked-requires
-end_asked-requires g c = (map string_bytes c.args.words.now, c.in-Some.ensures.found)
+end_asked-requires g c = record { asked = (map string_bytes c.args.words.now, c.in-Some.ensures.found) }
 
 pub returns-in-Some-clause-claims : goal.returns-in-Some-clause-claims
 returns-in-Some-clause-claims g c =

@@ -24,11 +24,11 @@ returns-in-Err-TooLong-clause-alone g c =
 pub returns-in-Err-ReadFault-clause-ends : goal.returns-in-Err-ReadFault-clause-ends
 returns-in-Err-ReadFault-clause-ends g c = λ words asks.
     errands.wrote 5 _ None (fault-asked words _ _ _ _ asks (c.in-Err-ReadFault.ensures.fault_rose (cc)))
-    (c.write_line.ensures.written _ refl)
+    (c.write_line-in-Err-ReadFault.ensures.written _ refl)
 
 pub returns-in-Err-ReadFault-clause-alone : goal.returns-in-Err-ReadFault-clause-alone
 returns-in-Err-ReadFault-clause-alone g c =
-    alone-line _ 5 _ _ _ c.write_line.ensures.status (λ n. omega (arith, n)) refl refl refl
+    alone-line _ 5 _ _ _ c.write_line-in-Err-ReadFault.ensures.status (λ n. omega (arith, n)) refl refl refl
 
 pub returns-in-Err-NoMemory-clause-ends : goal.returns-in-Err-NoMemory-clause-ends
 returns-in-Err-NoMemory-clause-ends g c = λ words asks. errands.wanted refl refl refl
