@@ -375,8 +375,7 @@ call-ends c (errands.wrote status bytes next due written) = (
 call-ends c (errands.wanted seven out new) =
     let t = some_text c.contract.left in
     let u = some_text c.snapshot.left in
-    let v = some_text c.script.left in
-    (
+    let v = some_text c.script.left in (
       record { contract = t.0; snapshot = u.0; script = v.0 },
       record {
         told = record { contract = t.1; snapshot = u.1; script = v.1 };

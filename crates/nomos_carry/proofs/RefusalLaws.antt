@@ -1,6 +1,7 @@
 -- Of a contract that is not accepted one thing is told, and nothing of one that is.
 use Rattle.std.proofs.Common.{◌≡◌, ◌∙◌, ◌⊎◌, inl, inr, ℕ, List, Ok, Err, refl, sym, ap, subst}
 use Rattle.nomos_accept.specs.AcceptedText.{Answers, IsAcceptedAs, IsCauseOf, PivotRunEndsWith, found_amounts}
+use Rattle.nomos_accept.specs.declared.refusal.AcceptError.{AcceptError}
 use Rattle.nomos_accept.specs.declared.refusal.AcceptError.TheVariants as error
 use Rattle.nomos_accept.specs.declared.refusal.Why.{Why}
 use Rattle.nomos_due.specs.Outside.{Input}
@@ -41,13 +42,11 @@ stop-one text s u (lists, read, unsolved) (others, reads, stops) =
     cc
 
 -- a text of which an error is true is not accepted
-pub refused-none : (text : List ℕ) (why : Why) → Answers text (Err (error.Refused why)) → (a : Acceptance)
+pub error-none : (text : List ℕ) (e : AcceptError) → Answers text (Err e) → (e ≡ error.NoMemory → ⊥) → (a : Acceptance)
     → ¬ (IsAcceptedAs text a)
-refused-none text why answers a is = answers.never a.program a.annotations is.typed
-
-pub unsolved-none : (text : List ℕ) (stop : Stop) → Answers text (Err (error.Unsolved stop)) → (a : Acceptance)
-    → ¬ (IsAcceptedAs text a)
-unsolved-none text stop answers a is = accepted-no_stop text a stop is answers
+error-none text (error.Refused why) answers known a is = answers.never a.program a.annotations is.typed
+error-none text (error.Unsolved stop) answers known a is = accepted-no_stop text a stop is answers
+error-none text error.NoMemory answers known a is = known refl
 
 -- ---- what is due
 
@@ -63,8 +62,11 @@ refusal-one text file word x y here there status out other also (outcome.refused
     inr (inr refl)
 refusal-one text file word x y here there status out other also (outcome.refused why is) (outcome.refused cause was) =
     let one = one-answer x.text in
-    inl (refl, one.one_refusal why cause is.cause
-    (subst (λ (t : List ℕ). IsCauseOf t cause) (there ∙ sym here) was.cause))
+    inl (
+      refl,
+      one.one_refusal why cause is.cause
+          (subst (λ (t : List ℕ). IsCauseOf t cause) (there ∙ sym here) was.cause),
+    )
 refusal-one text file word x y here there status out other also (outcome.refused why is) (outcome.unsolved stop was) =
     let one = one-answer x.text in
     absurd ((one.caused_goes_on why stop is.cause).0
@@ -76,8 +78,11 @@ refusal-one text file word x y here there status out other also (outcome.unsolve
     absurd ((one.caused_goes_on why stop was.cause).0
     (subst (λ (t : List ℕ). HasStopped t stop) (here ∙ sym there) is))
 refusal-one text file word x y here there status out other also (outcome.unsolved stop is) (outcome.unsolved stops was) =
-    inl (refl, ap unsolved_line (stop-one x.text stop stops is
-    (subst (λ (t : List ℕ). HasStopped t stops) (there ∙ sym here) was)))
+    inl (
+      refl,
+      ap unsolved_line (stop-one x.text stop stops is
+          (subst (λ (t : List ℕ). HasStopped t stops) (there ∙ sym here) was)),
+    )
 
 -- of what is accepted the contract alone can fail
 pub accepted-fault : (file : List ℕ) (x : Input) (a : Acceptance) (status : ℕ) (out : List ℕ) → IsAcceptedAs x.text a

@@ -1,10 +1,10 @@
 //! The call: from the words, the sources and the sinks to the status.
 
-ghost use Rattle.std.specs.Prelude.{◌≡◌, ◌⊎◌, ◌∷◌, [], ℕ, List, None, IfOk, IfSome, IsSome, codes, map, string_bytes};
-ghost use Rattle.nomos_accept.specs.AcceptedText.{IsAcceptedAs};
+ghost use Rattle.std.specs.Prelude.{◌≡◌, ◌⊎◌, ◌∷◌, ◌↔◌, [], ℕ, List, None, Err, IfOk, IfSome, IsSome, IsTrue, codes, map, string_bytes};
+ghost use Rattle.nomos_accept.specs.AcceptedText.{Answers};
 ghost use Rattle.nomos_due.specs.Outside.{SinkState, sink_state, source_state};
 ghost use Rattle.nomos_due.specs.Written.{HasWrittenOut};
-ghost use Rattle.nomos_types.specs.Acceptance.{Acceptance, IsAccepted};
+ghost use Rattle.nomos_types.specs.Acceptance.{IsAccepted};
 ghost use Rattle.nomos_words.specs.Options.{IsFileWord};
 ghost use Rattle.nomos_carry.specs.Alone.{LeavesAlone};
 ghost use Rattle.nomos_carry.specs.CarryClaims.{CarryClaims};
@@ -68,8 +68,13 @@ fn accepted_due<S: Source>(
     ensures script_unread { ¬ IsSome (script_file (carry_task errand.entry)) → script.new ≡ script.old }
 {
     match errand {
-        Errand::Carry { snapshot: None, .. } => begin_due::<IndexedState, S>(alloc, accepted, script),
-        Errand::Carry { snapshot: Some(_), .. } => carry_due::<IndexedState, S>(alloc, accepted, snapshot, script),
+        Errand::Carry { snapshot: None, .. } => begin_due::<IndexedState, S>(
+            alloc, accepted, script,
+        ),
+        Errand::Carry {
+            snapshot: Some(_),
+            ..
+        } => carry_due::<IndexedState, S>(alloc, accepted, snapshot, script),
         Errand::Renumber { .. } => renumber_due::<IndexedState, S>(alloc, accepted, snapshot),
         Errand::Numbers { .. } => numbers_due::<IndexedState, S>(alloc, accepted, snapshot),
     }
@@ -85,23 +90,51 @@ fn check_words(alloc: Global, file: &str) -> Result<Vec<String>, AllocError>
     Ok(words)
 }
 
-// Ends a call whose contract is not accepted, as a check of this text by `nomos` ends.
-fn end_as_check<K: Sink>(alloc: Global, file: &str, text: Vec<u8>, out: &mut K, next: &mut K) -> u8
-    requires file { IsFileWord file.now }
-    requires never { (a : Acceptance) → ¬ IsAcceptedAs text.items a }
-    ensures ends { Ends (IsRefusalDue file.now text.items)
-        (sink_state (K.written out.old) (K.written out.new) (K.faults out.old) (K.faults out.new))
-        (sink_state (K.written next.old) (K.written next.new) (K.faults next.old) (K.faults next.new)) result }
-    ensures out { result ≡ 7 → out.new ≡ out.old }
-    ensures next { next.new ≡ next.old }
+// Whether memory was wanting.
+fn is_wanting(error: &AcceptError) -> bool
+    ensures { IsTrue result ↔ (error.now ≡ AcceptError.NoMemory) }
 {
+    matches!(error, AcceptError::NoMemory)
+}
+
+// Ends a call whose contract is not accepted for this cause, as a check of this text by `nomos` ends.
+fn end_as_check<S: Source + Drop, K: Sink + Drop>(
+    alloc: Global,
+    file: &str,
+    error: &AcceptError,
+    text: Vec<u8>,
+    edges: &mut Edges<S, K>,
+) -> u8
+    requires file { IsFileWord file.now }
+    requires answers { Answers text.items (Err error.now) }
+    ensures ends { Ends (IsRefusalDue file.now text.items)
+        (sink_state (K.written edges.old.out) (K.written edges.new.out)
+        (K.faults edges.old.out) (K.faults edges.new.out))
+        (sink_state (K.written edges.old.next) (K.written edges.new.next)
+        (K.faults edges.old.next) (K.faults edges.new.next)) result }
+    ensures snapshot { edges.new.snapshot ≡ edges.old.snapshot }
+    ensures script { edges.new.script ≡ edges.old.script }
+    ensures out { result ≡ 7 → edges.new.out ≡ edges.old.out }
+    ensures next { edges.new.next ≡ edges.old.next }
+{
+    if is_wanting(error) {
+        return 7;
+    }
     let Ok(words) = check_words(alloc, file) else {
         return 7;
     };
     let mut contract = SureSource::new(text);
     let mut script = SureSource::new(Vec::new(alloc));
     let mut third = SureSource::new(Vec::new(alloc));
-    let ended = nomos_by_one(alloc, &words, &mut contract, &mut script, &mut third, out, next);
+    let ended = nomos_by_one(
+        alloc,
+        &words,
+        &mut contract,
+        &mut script,
+        &mut third,
+        &mut edges.out,
+        &mut edges.next,
+    );
     ended.status
 }
 
@@ -117,14 +150,20 @@ fn end_accepted<S: Source + Drop, K: Sink + Drop>(
         (source_state (S.left edges.old.snapshot) (S.faults edges.old.snapshot) (S.faults edges.new.snapshot))
         (source_state (S.left edges.old.script) (S.faults edges.old.script) (S.faults edges.new.script)))
         (sink_state (K.written edges.old.out) (K.written edges.new.out)
-            (K.faults edges.old.out) (K.faults edges.new.out))
+        (K.faults edges.old.out) (K.faults edges.new.out))
         (sink_state (K.written edges.old.next) (K.written edges.new.next)
-            (K.faults edges.old.next) (K.faults edges.new.next)) result }
+        (K.faults edges.old.next) (K.faults edges.new.next)) result }
     ensures alone { AloneFor (carry_task errand.entry) result edges.old edges.new }
 {
     // Where the program is read it is known to be accepted.
     let _program = accepted.program();
-    match accepted_due(alloc, accepted, errand, &mut edges.snapshot, &mut edges.script) {
+    match accepted_due(
+        alloc,
+        accepted,
+        errand,
+        &mut edges.snapshot,
+        &mut edges.script,
+    ) {
         Some(due) => write_due(&due, &mut edges.out, &mut edges.next),
         None => 7,
     }
@@ -142,16 +181,14 @@ fn end_judged<S: Source + Drop, K: Sink + Drop>(
         (source_state (S.left edges.old.snapshot) (S.faults edges.old.snapshot) (S.faults edges.new.snapshot))
         (source_state (S.left edges.old.script) (S.faults edges.old.script) (S.faults edges.new.script)))
         (sink_state (K.written edges.old.out) (K.written edges.new.out)
-            (K.faults edges.old.out) (K.faults edges.new.out))
+        (K.faults edges.old.out) (K.faults edges.new.out))
         (sink_state (K.written edges.old.next) (K.written edges.new.next)
-            (K.faults edges.old.next) (K.faults edges.new.next)) result }
+        (K.faults edges.old.next) (K.faults edges.new.next)) result }
     ensures alone { AloneFor (carry_task errand.entry) result edges.old edges.new }
 {
     match accept(alloc, &text) {
         Ok(accepted) => end_accepted(alloc, &accepted, errand, edges),
-        Err(AcceptError::NoMemory) => 7,
-        Err(AcceptError::Refused(_)) => end_as_check(alloc, errand.contract(), text, &mut edges.out, &mut edges.next),
-        Err(AcceptError::Unsolved(_)) => end_as_check(alloc, errand.contract(), text, &mut edges.out, &mut edges.next),
+        Err(error) => end_as_check(alloc, errand.contract(), &error, text, edges),
     }
 }
 
@@ -167,9 +204,9 @@ fn end_asked<S: Source + Drop, K: Sink + Drop>(
         (source_state (S.left edges.old.snapshot) (S.faults edges.old.snapshot) (S.faults edges.new.snapshot))
         (source_state (S.left edges.old.script) (S.faults edges.old.script) (S.faults edges.new.script)))
         (sink_state (K.written edges.old.out) (K.written edges.new.out)
-            (K.faults edges.old.out) (K.faults edges.new.out))
+        (K.faults edges.old.out) (K.faults edges.new.out))
         (sink_state (K.written edges.old.next) (K.written edges.new.next)
-            (K.faults edges.old.next) (K.faults edges.new.next)) result }
+        (K.faults edges.old.next) (K.faults edges.new.next)) result }
     ensures alone { AloneFor (carry_task errand.entry) result edges.old edges.new }
 {
     match read_all(alloc, &mut edges.contract, TEXT_LIMIT) {

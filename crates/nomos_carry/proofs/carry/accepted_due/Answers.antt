@@ -17,7 +17,7 @@ returns-in-Carry-default-None-default-default-clause-due g c =
     (g.S.Source.faults c.begin_due.new.script) in
     let word : Option (Bor (List ℕ)) → Option (List ℕ) = option_map (λ (w : Bor (List ℕ)). w.now) in
     let from : Option (List ℕ) = word arm.snapshot in
-    let empty : arm.snapshot ≡ None = arm.snapshot-is in
+    let empty : arm.snapshot ≡ None = rw arm.is at arm.snapshot-is in
     let none : from ≡ None = ap word empty in
     let task : CarryTask = carry arm.file.now from arm.script.now arm.new.now in
     rw arm.is
