@@ -35,7 +35,8 @@ pub runs-on : {M : Type 0} {a : Acceptance} {first : LedgerState} {items : List 
     → SavesWhole a made.journal whole.report.items whole.ledger d → RunsOn a first items d
 runs-on {a = a} {items = items} {made} whole runs finished d saves =
     let all : IfSome (Some whole)
-    (λ f. (runs.count ≡ length items) × IsWholeRun a usual_orders runs.passages runs.last f) = rw finished at runs.all in
+    (λ f. (runs.count ≡ length items) × IsWholeRun a usual_orders runs.passages runs.last f) =
+    rw finished at runs.all in
     let told = all.1 in
     record {
       journal = made.journal;
@@ -71,6 +72,7 @@ goes-on {a} {first} {script} snapshot d begins (ran_on text items told reads run
       run = run.run;
       stands = run.stands;
     }
+
     by : SavesWhole a run.journal (report_of a run.passages) run.last d
         → IsCarryDue a snapshot (input_of script text) d.status d.out.items (kept_text d)
     by (saved next written loads status out kept journal) =

@@ -38,8 +38,10 @@ point-counts : (n : ℕ) (xs : List ℕ) (i : ℕ) → i ≤ length xs
 point-counts n [] i short point = omega (arith, short)
 point-counts n (x ∷ xs) zero short point =
     let first : ltb x n ≡ false = point.1 zero x (omega arith) (omega arith) in
-    let rest = point-counts n xs zero (omega arith)
-    (λ k d low high. absurd (omega (arith, high)), λ k d low high. point.1 (suc k) d (omega arith) (omega (arith, high))) in
+    let rest = point-counts n xs zero (omega arith) (
+      λ k d low high. absurd (omega (arith, high)),
+      λ k d low high. point.1 (suc k) d (omega arith) (omega (arith, high)),
+    ) in
     rw first rest
 point-counts n (x ∷ xs) (suc i) short point =
     let first : ltb x n ≡ true = point.0 zero x (omega arith) (omega arith) in
@@ -54,7 +56,8 @@ pub point-place : (n : ℕ) (xs : List ℕ) (i : ℕ) → i ≤ length xs
 point-place n xs i short point = omega (arith, point-counts n xs i short point)
 
 -- each number that ascends stands at its own place
-place-own : (xs : List ℕ) → IsStrictlySortedBy nat_cmp xs → (k : ℕ) → k < length xs → place_in xs (get_or xs k 0) ≡ k + 1
+place-own : (xs : List ℕ) → IsStrictlySortedBy nat_cmp xs → (k : ℕ) → k < length xs
+    → place_in xs (get_or xs k 0) ≡ k + 1
 place-own xs sorted k within =
     point-place (get_or xs k 0) xs k (omega (arith, within)) (
       λ j d low high. lt-ltb (get_or xs j d) (get_or xs k 0)
@@ -87,7 +90,8 @@ module _ (objects names : ℕ → ℕ) where
   number-by (object.Process p) = refl
   number-by (object.Message m) = refl
 
-  pub numbers-by : (os : List Object) → map object_number (map (object_by objects names) os) ≡ map objects (map object_number os)
+  pub numbers-by : (os : List Object)
+      → map object_number (map (object_by objects names) os) ≡ map objects (map object_number os)
   numbers-by [] = refl
   numbers-by (o ∷ os) = rw (number-by o, numbers-by os)
 
@@ -106,7 +110,8 @@ module _ (objects names : ℕ → ℕ) where
         purses-by os,
       )
 
-  count-by : (v : ℕ) (p : Process) → count_one (bound_to v (each_bound names p.channels)) ≡ count_one (bound_to v p.channels)
+  count-by : (v : ℕ) (p : Process)
+      → count_one (bound_to v (each_bound names p.channels)) ≡ count_one (bound_to v p.channels)
   count-by v p = ap count_one (each-bound names v p.channels) ∙ same (bound_to v p.channels)
     where
       same : (o : Option ℕ) → count_one (option_map names o) ≡ count_one o
@@ -158,7 +163,8 @@ module _ (names : ℕ → ℕ) where
       (shared-none cs name (All-tail (λ (d : List ℕ × ℕ). d.0 ≢ name) c cs other))
     where
       by : (t : Bool) → (t ≢ true) → shared_name cs name ≡ None
-          → option_map (λ (d : List ℕ × ℕ). d.1) (cond t (Some c) (find (λ (d : List ℕ × ℕ). bytes_eq d.0 name) cs)) ≡ None
+          → option_map (λ (d : List ℕ × ℕ). d.1) (cond t (Some c) (find (λ (d : List ℕ × ℕ). bytes_eq d.0 name) cs))
+          ≡ None
       by true never rest = absurd (never refl)
       by false never rest = rest
 

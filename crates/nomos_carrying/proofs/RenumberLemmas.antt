@@ -238,8 +238,8 @@ refused-renumbered {a} {text} parts made why accepted has r admits =
 -- ---- answers of calls
 
 -- the parts of a text that is loaded
-pub parts-ok : {a : Acceptance} {text : List ℕ} (l : LedgerState) (r : Result LedgerParts LoadError) → Loads a text (Ok l)
-    → IfOk r (λ parts. TellsLedger a text (parts_ledger parts)) → IfOk r (HasParts a text)
+pub parts-ok : {a : Acceptance} {text : List ℕ} (l : LedgerState) (r : Result LedgerParts LoadError)
+    → Loads a text (Ok l) → IfOk r (λ parts. TellsLedger a text (parts_ledger parts)) → IfOk r (HasParts a text)
 parts-ok l (Ok parts) loads tells = record { ledger = l; loads = loads; tells = tells }
 parts-ok l (Err why) loads tells = tt
 
@@ -266,8 +266,8 @@ admitted-err parts made (Err why) accepted has r refuses =
 -- ---- what is due
 
 -- a saved text is that of its ledger
-saves-text : {a : Acceptance} {l : LedgerState} {answer : Result (List ℕ) SaveError} → Saves a l answer → (text : List ℕ)
-    → answer ≡ Ok text → text ≡ snapshot_text a l
+saves-text : {a : Acceptance} {l : LedgerState} {answer : Result (List ℕ) SaveError} → Saves a l answer
+    → (text : List ℕ) → answer ≡ Ok text → text ≡ snapshot_text a l
 saves-text (saving.numbers high) text is = cc
 saves-text (saving.too_long low long) text is = cc
 saves-text (saving.saved low short) text is = cc
@@ -289,7 +289,8 @@ keeps-unsaved m why None never bare known = tt
 pub renumbered-due : {a : Acceptance} (snapshot : Input) (m : LedgerState) (d : Due)
     → HasRenumbered a snapshot.text m → KeepsRenumbered a m d → IsDueOf a snapshot d
 renumbered-due snapshot m d has (keeps loads tells) =
-    rw (tells.status_is, tells.kept_is) (renumbered.renumbered has.ledger m d.out.items has.loads has.is loads tells.told)
+    rw (tells.status_is, tells.kept_is)
+    (renumbered.renumbered has.ledger m d.out.items has.loads has.is loads tells.told)
 renumbered-due snapshot m d has (keeps_none why never bare) =
     rw (bare.status_is, bare.text_is, bare.nothing_kept)
     (renumbered.unsaved has.ledger m why has.loads has.is never)

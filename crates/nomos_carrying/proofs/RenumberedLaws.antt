@@ -67,7 +67,8 @@ module _ (g h : ℕ → ℕ) where
   alike-payload payload.Pay alike = refl
   alike-payload payload.Close alike = refl
 
-  alike-channels : (cs : List (VarId × ℕ)) → TakeAlike (map (λ (e : VarId × ℕ). e.1) cs) → each_bound g cs ≡ each_bound h cs
+  alike-channels : (cs : List (VarId × ℕ)) → TakeAlike (map (λ (e : VarId × ℕ). e.1) cs)
+      → each_bound g cs ≡ each_bound h cs
   alike-channels [] alike = refl
   alike-channels (c ∷ cs) alike =
       let ns : List ℕ = map (λ (e : VarId × ℕ). e.1) cs in
@@ -77,28 +78,30 @@ module _ (g h : ℕ → ℕ) where
 
   -- the names of a message: that on which it is read, the next one if there is one, and what it brings
   record TakeMessageAlike (read : ℕ) (next : Option ℕ) (brings : List ℕ) : Type 0 where
-    read : g read ≡ h read
-    next : option_map g next ≡ option_map h next
-    brings : TakeAlike brings
+    read_is : g read ≡ h read
+    next_is : option_map g next ≡ option_map h next
+    brings_are : TakeAlike brings
 
   alike-message : (read : ℕ) (next : Option ℕ) (brings : List ℕ) (to_client : Bool)
-      → TakeAlike (cond to_client (read ∷ []) (option_to_list next)
-      ++ ((cond to_client (option_to_list next) (read ∷ []) ++ brings) ++ []))
+      → TakeAlike ((cond to_client (read ∷ []) (option_to_list next)
+      ++ (cond to_client (option_to_list next) (read ∷ []) ++ brings)) ++ [])
       → TakeMessageAlike read next brings
   alike-message read next brings true alike =
       let behind = option_to_list next ++ brings in
-      let uses = alike-left behind [] (alike-right (read ∷ []) (behind ++ []) alike) in
+      let all = alike-left (read ∷ behind) [] alike in
+      let uses = alike-right (read ∷ []) behind all in
       record {
-        read = alike-head read (behind ++ []) alike;
-        next = alike-option next (alike-left (option_to_list next) brings uses);
-        brings = alike-right (option_to_list next) brings uses;
+        read_is = alike-head read behind all;
+        next_is = alike-option next (alike-left (option_to_list next) brings uses);
+        brings_are = alike-right (option_to_list next) brings uses;
       }
   alike-message read next brings false alike =
-      let uses = alike-left (read ∷ brings) [] (alike-right (option_to_list next) ((read ∷ brings) ++ []) alike) in
+      let all = alike-left (option_to_list next ++ (read ∷ brings)) [] alike in
+      let uses = alike-right (option_to_list next) (read ∷ brings) all in
       record {
-        read = alike-head read brings uses;
-        next = alike-option next (alike-left (option_to_list next) ((read ∷ brings) ++ []) alike);
-        brings = alike-right (read ∷ []) brings uses;
+        read_is = alike-head read brings uses;
+        next_is = alike-option next (alike-left (option_to_list next) (read ∷ brings) all);
+        brings_are = alike-right (read ∷ []) brings uses;
       }
 
   -- an object whose names both take alike
@@ -113,8 +116,13 @@ module _ (g h : ℕ → ℕ) where
       λ i. object.Process (record p { pid = number i; channels = channels i; offers = offers i; base = base i })
   alike-object f e (object.Message m) number alike =
       let names = alike-message m.from m.next (carried m.payload) m.to_client alike in
-      let payload = alike-payload m.payload names.brings in
-      λ i. object.Message (record m { number = number i; from = names.read i; next = names.next i; payload = payload i })
+      let brings = alike-payload m.payload names.brings_are in
+      λ i. object.Message (record m {
+        number = number i;
+        from = names.read_is i;
+        next = names.next_is i;
+        payload = brings i;
+      })
 
 -- all of them
 alike-objects : (f e g h : ℕ → ℕ) (os : List Object) → All (λ n. f n ≡ e n) (map object_number os)

@@ -18,14 +18,14 @@ use Rattle.nomos_snapshot.specs.Saving.{Saves}
 use Rattle.nomos_snapshot.specs.declared.error.SaveError.{SaveError}
 use Rattle.nomos_types.specs.Acceptance.{Acceptance}
 
--- the ledger at which a script begins: the empty one where there is no snapshot, or the one that the snapshot is loaded as
+-- the ledger at which a script begins: the empty one where there is no snapshot, or else the one that it is loaded as
 abbrev pub BeginsFrom : Acceptance → Option Input → LedgerState → Type 0
 BeginsFrom a None first = first ≡ empty_ledger
 BeginsFrom a (Some snapshot) first = Loads a snapshot.text (Ok first)
 
 -- The script reads, and this is its run from the first ledger, by one worker, the lowest ready process first.
-pub record HasCarried (a : Acceptance) (snapshot : Option Input) (script : Input) (journal : Journal) (ps : List Passage)
-    (last : LedgerState) : Type 0 where
+pub record HasCarried (a : Acceptance) (snapshot : Option Input) (script : Input) (journal : Journal)
+    (ps : List Passage) (last : LedgerState) : Type 0 where
   pub first : LedgerState
   pub begins : BeginsFrom a snapshot first
   pub items : List ScriptItem

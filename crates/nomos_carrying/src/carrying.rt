@@ -65,8 +65,8 @@ fn carried_due<M: Contents + Drop, S: Source>(
 }
 
 /// What is due where the script that a source has is run on an accepted contract, by one worker, from the ledger of the
-/// snapshot that another source has, and the last ledger is saved: the report, and the next snapshot as what is kept. The
-/// script is read only where the snapshot is loaded. Nothing is due where memory is wanting. See docs/LEDGER.md.
+/// snapshot that another source has, and the last ledger is saved: the report, and the next snapshot as what is kept.
+/// The script is read only where the snapshot is loaded. Nothing is due where memory is wanting. See docs/LEDGER.md.
 pub fn carry_due<M: Contents + Drop, S: Source>(
     alloc: Global,
     accepted: &Accepted,

@@ -48,8 +48,8 @@ fn with_warning(text: Vec<u8>) -> Result<Vec<u8>, AllocError>
     Ok(text)
 }
 
-// The line of the next numbers; and where one of them is half of what a snapshot may have or more, a line that says that
-// a renumbering is due.
+// The line of the next numbers; and where one of them is half of what a snapshot may have or more, a line that says
+// that a renumbering is due.
 fn numbers_text(alloc: Global, object: u32, name: u32) -> Result<Vec<u8>, AllocError>
     ensures { IfOk result (λ text. TellsNumbers object name text.items) }
 {

@@ -116,7 +116,8 @@ fn renumbered_due<M: Contents + Drop>(
 
 // What is due of the text of a snapshot.
 fn text_due<M: Contents + Drop>(alloc: Global, accepted: &Accepted, text: &[u8]) -> Option<Due>
-    ensures { (counts : FaultCounts) → IfSome result (IsDueOf accepted.now (record { text = text.now; counts = counts })) }
+    ensures { (counts : FaultCounts) → IfSome result
+        (IsDueOf accepted.now (record { text = text.now; counts = counts })) }
 {
     match renumbered::<M>(alloc, accepted, text) {
         Ok(ledger) => renumbered_due(alloc, accepted, &ledger),
@@ -125,9 +126,9 @@ fn text_due<M: Contents + Drop>(alloc: Global, accepted: &Accepted, text: &[u8])
 }
 
 /// What is due where the ledger of the snapshot that a source has is renumbered: its objects, and its names, have the
-/// numbers 1, 2, 3 and so on in the order in which they stand, the next numbers are told, and its snapshot is kept. Where
-/// there is no ledger, or the renumbered one is not admitted or not saved, the cause is told and nothing is kept. Nothing
-/// is due where memory is wanting. See docs/LEDGER.md, "When to renumber".
+/// numbers 1, 2, 3 and so on in the order in which they stand, the next numbers are told, and its snapshot is kept.
+/// Where there is no ledger, or the renumbered one is not admitted or not saved, the cause is told and nothing is kept.
+/// Nothing is due where memory is wanting. See docs/LEDGER.md, "When to renumber".
 pub fn renumber_due<M: Contents + Drop, S: Source>(
     alloc: Global,
     accepted: &Accepted,

@@ -8,7 +8,9 @@ use Rattle.nomos_carrying.proofs.dense.place_in.Goals as goal
 pub returns : goal.returns
 returns c =
     let numbers = c.args.numbers.now in
-    let parted = IsPartitionedBy-ltb (λ y. y) numbers c.args.number (non_decreasing_from_sorted numbers c.requires.sorted) in
-    let point = IsPartitionPoint-from_clause (λ y. ltb y c.args.number) _ _ c.partition_point-smaller.ensures.partitioned parted
+    let n = c.args.number in
+    let found = c.partition_point-smaller in
+    let parted = IsPartitionedBy-ltb (λ y. y) numbers n (non_decreasing_from_sorted numbers c.requires.sorted) in
+    let point = IsPartitionPoint-from_clause (λ y. ltb y n) _ _ found.ensures.partitioned parted
     (λ a r q k. search rules) in
-    sym (point-place c.args.number numbers c.partition_point-smaller.result c.partition_point-smaller.ensures.bound point)
+    sym (point-place n numbers found.result found.ensures.bound point)
