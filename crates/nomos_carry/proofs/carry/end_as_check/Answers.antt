@@ -1,4 +1,4 @@
-use Rattle.std.proofs.Common.{ℕ, List, Some, ap}
+use Rattle.std.proofs.Common.{◌∙◌, ℕ, List, Some, ap, sym, true≢false}
 use Rattle.nomos_due.specs.Outside.{source_state}
 use Rattle.nomos_carry.proofs.CallLemmas.{check-alone, check-ends, check-keeps}
 use Rattle.nomos_carry.proofs.RefusalLaws.{error-none}
@@ -14,7 +14,7 @@ returns-clause-ends g c =
     check-ends _ claims.texts c.args.file.now c.args.text.items claims.ends (rw c.deref.ensures.value c.in-Ok.ensures)
     c.requires.file (ap (λ (bytes : List ℕ). source_state (Some bytes) 0 0) c.new-contract.ensures)
     (error-none c.args.text.items c.args.error.now c.requires.answers
-    (λ none. c.if-is_wanting.false (c.is_wanting.ensures.1 none)))
+    (λ none. true≢false (sym (c.is_wanting.ensures.1 none) ∙ c.if-is_wanting.false)))
 
 pub returns-clause-next : goal.returns-clause-next
 returns-clause-next g c =

@@ -1,9 +1,12 @@
+use Rattle.std.proofs.Common.{ℕ, List, Err, subst}
+use Rattle.nomos_accept.specs.AcceptedText.{Answers}
 use Rattle.nomos_carry.specs.mirror.Errands as errands
 use Rattle.nomos_carry.proofs.CallLemmas.{alone-refused, ends-map}
 use Rattle.nomos_carry.proofs.carry.end_judged.Goals as goal
 
 pub end_as_check-requires-clause-answers : goal.end_as_check-requires-clause-answers
-end_as_check-requires-clause-answers g c = rw c.deref.ensures.value at c.in-Err.ensures
+end_as_check-requires-clause-answers g c =
+    subst (λ (text : List ℕ). Answers text (Err c.in-Err.error)) c.deref.ensures.value c.in-Err.ensures
 
 pub returns-in-Ok-clause-ends : goal.returns-in-Ok-clause-ends
 returns-in-Ok-clause-ends g c =
