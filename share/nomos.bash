@@ -1,4 +1,5 @@
-# Completion for bash of the words of nomos, nomos-explain, nomos-test, nomos-trace, nomos-orders and nomos-gas.
+# Completion for bash of the words of nomos, nomos-carry, nomos-explain, nomos-test, nomos-trace, nomos-orders and
+# nomos-gas.
 
 # _nomos_explain: offers the options of nomos-explain and of a run, and else says which files are wanted
 _nomos_explain() {
@@ -45,6 +46,19 @@ _nomos_run() {
     mapfile -t COMPREPLY < <(compgen -W "$offered" -- "$word")
 }
 
+# _nomos_carry: offers the options of nomos-carry, and else says which files are wanted
+_nomos_carry() {
+    local at=$COMP_CWORD
+    [[ ${COMP_WORDS[1]} != --* ]] || at=$((at - 1))
+    case $COMP_CWORD:$at:$word in
+    1:*:-*) mapfile -t COMPREPLY < <(compgen -W '--renumber --numbers' -- "$word") && return 0 ;;
+    *:1:*) ;;
+    3:3:*) wanted='*.script' ;;
+    *) wanted='*' ;;
+    esac
+    return 1
+}
+
 _nomos() {
     local word=${COMP_WORDS[COMP_CWORD]} wanted='*.nomos' before=${COMP_WORDS[COMP_CWORD - 1]}
     COMPREPLY=()
@@ -71,6 +85,7 @@ _nomos() {
         esac
     else
         case ${COMP_WORDS[0]##*/} in
+        nomos-carry) _nomos_carry && return ;;
         nomos-test) _nomos_test && return ;;
         nomos-trace)
             _nomos_run --lanes --mermaid --report --json --types --policy --workers --seed --journal --steps --help \
@@ -89,4 +104,4 @@ _nomos() {
     )
 }
 
-complete -F _nomos nomos nomos-explain nomos-test nomos-trace nomos-orders nomos-gas
+complete -F _nomos nomos nomos-carry nomos-explain nomos-test nomos-trace nomos-orders nomos-gas

@@ -1,0 +1,9 @@
+mod TaskLaws
+mod RefusalLaws
+mod RightLaws
+mod OneDueLaws
+mod RenumberDueLaws
+mod EndLaws
+mod DeterminedLaws
+mod ClaimLaws
+mod CallLemmas

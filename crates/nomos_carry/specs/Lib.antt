@@ -1,0 +1,5 @@
+pub mod CarryWords
+pub mod CarryCall
+pub mod CarryClaims
+pub mod Alone
+pub mod mirror

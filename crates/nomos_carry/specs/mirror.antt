@@ -1,0 +1,2 @@
+-- What the code finds on its way. Private clauses alone cite it.
+pub mod Errands

@@ -1,0 +1,5 @@
+mod DenseLemmas
+mod NoLedgerLemmas
+mod RenumberLemmas
+mod CarryLemmas
+pub mod RenumberedLaws

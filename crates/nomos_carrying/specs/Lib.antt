@@ -1,0 +1,4 @@
+pub mod CarryDue
+pub mod Renumbered
+pub mod CarrySources
+pub mod mirror
