@@ -1,5 +1,5 @@
 -- What is kept is in order again, where objects, rows and channels changed and the marks stayed.
-use Rattle.std.proofs.Common.{◌≡◌, ℕ, Result, Ok, Err, OnErr, refl}
+use Rattle.std.proofs.Common.{◌≡◌, ◌≤◌, ◌∙◌, ℕ, List, Result, Ok, Err, OnErr, refl, sym, ap, subst, arith}
 use Rattle.std.specs.Option.{option_map}
 use Rattle.nomos_ir.specs.Value.{Value}
 use Rattle.nomos_ir.specs.declared.ids.VarId.{VarId}
@@ -10,12 +10,13 @@ use Rattle.nomos_slots.specs.Tables.{HaveSameNames}
 use Rattle.nomos_slots.specs.Shelving.{Shelving}
 use Rattle.nomos_slots.specs.declared.numbered.Slot.{Slot}
 use Rattle.nomos_index.specs.Indexed.{HasRoom, IsHolding, IsIndexed, held_marked, held_now, state_of}
+use Rattle.nomos_index.specs.Objects.{ListRow, ValueRow}
 use Rattle.nomos_index.specs.Together.{MarksTheSame}
 use Rattle.nomos_index.specs.declared.inside.Columns.{Columns}
 use Rattle.nomos_index.specs.declared.inside.Inside.TheInside.{Inside}
 use Rattle.nomos_index.specs.declared.inside.Numbers.{Numbers}
 use Rattle.nomos_index.specs.declared.kept.Kept.{Kept}
-use Rattle.nomos_index.proofs.TogetherLemmas.{marked-holding, marked-same, state-same, together-same}
+use Rattle.nomos_index.proofs.TogetherLemmas.{marked-holding, marked-same, same-names, state-same, together-same}
 
 module _ (s : Inside) (objects : Marking (Slot Kept)) (values : Shelving (VarId × Value))
     (its_lists : Shelving (VarId × PotentialList)) (channels : Marking Cell) (numbers : Numbers)
@@ -84,3 +85,41 @@ module _ (s : Inside) (channels : Marking Cell)
 
   pub moved-marks : option_map state_of (held_marked moved s.marked) ≡ option_map state_of (held_marked s.contents s.marked)
   moved-marks = marks-again s s.contents.objects s.contents.values s.contents.lists channels s.contents.numbers refl refl refl c
+
+-- ---- rows that are kept elsewhere
+
+module _ (s : Inside) (values : Shelving (VarId × Value)) (its_lists : Shelving (VarId × PotentialList))
+    (same : values.now ≡ s.contents.values.now) (alike : its_lists.now ≡ s.contents.lists.now)
+    (v : values.marked ≡ s.contents.values.marked) (l : its_lists.marked ≡ s.contents.lists.marked) where
+  abbrev pub resting : Columns
+  resting = record s.contents { values = values; lists = its_lists }
+
+  resting-held : held_now resting ≡ held_now s.contents
+  resting-held =
+      ap (λ (vs : List ValueRow). record (held_now s.contents) { value_rows = vs; list_rows = its_lists.now }) same
+      ∙ ap (λ (ls : List ListRow). record (held_now s.contents) { list_rows = ls }) alike
+
+  pub resting-state : state_of (held_now resting) ≡ state_of (held_now s.contents)
+  resting-state = ap state_of resting-held
+
+  same_cells : HaveSameNames s.contents.channels.marked s.contents.channels.marked
+  same_cells = same-names s.contents.channels.marked s.contents.channels.marked refl
+
+  pub resting-marks : option_map state_of (held_marked resting s.marked)
+      ≡ option_map state_of (held_marked s.contents s.marked)
+  resting-marks =
+      marks-again s s.contents.objects values its_lists s.contents.channels s.contents.numbers refl v l same_cells
+
+  pub resting-indexed : (room : ℕ) → IsIndexed s → room ≤ s.room → room ≤ values.room → room ≤ its_lists.room
+      → IsIndexed (record s { contents = resting; room = room })
+  resting-indexed room is less has has_lists =
+      indexed-again s s.contents.objects values its_lists s.contents.channels s.contents.numbers refl v l same_cells room
+      is
+      (subst IsHolding (sym resting-held) is.now)
+      (record {
+        objects = omega (arith, less, is.has_room.objects);
+        values = has;
+        its_lists = has_lists;
+        channels = omega (arith, less, is.has_room.channels);
+        names = omega (arith, less, is.has_room.names);
+      })

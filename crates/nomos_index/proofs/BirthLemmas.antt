@@ -1,5 +1,5 @@
 -- A process comes to an indexed state: room is made for its channels, they are bound, and it comes with its rows.
-use Rattle.std.proofs.Common.{◌≡◌, ◌-◌, ◌∙◌, ◌++◌, ◌∷◌, ℕ, List, [], IsSome, Option, Some, refl, sym, ap, subst}
+use Rattle.std.proofs.Common.{◌≡◌, ◌-◌, ◌∙◌, ◌++◌, ◌∷◌, ℕ, Bool, List, [], IsSome, Option, Some, refl, sym, ap, subst}
 use Rattle.std.specs.Option.{option_map}
 use Rattle.nomos_ir.specs.Bindings.{bindings_of, bound_to}
 use Rattle.nomos_ir.specs.Value.{Value}
@@ -16,7 +16,7 @@ use Rattle.nomos_slots.specs.Tables.{HaveSameNames}
 use Rattle.nomos_slots.specs.declared.numbered.Slot.{Slot}
 use Rattle.nomos_index.specs.Coming.{ObjectComes, name_with}
 use Rattle.nomos_index.specs.Indexed.{HasRoom, IsIndexed, held_marked, held_now, state_of}
-use Rattle.nomos_index.specs.Objects.{channels_of, kept_of, process_held}
+use Rattle.nomos_index.specs.Objects.{AscendsIf, channels_of, kept_of, process_held}
 use Rattle.nomos_index.specs.Spanning.{HasVariable}
 use Rattle.nomos_index.specs.declared.inside.Columns.{Columns}
 use Rattle.nomos_index.specs.declared.inside.Inside.TheInside.{Inside}
@@ -29,7 +29,7 @@ use Rattle.nomos_index.proofs.ComingLemmas.{come-indexed, coming-state, coming_a
 use Rattle.nomos_index.proofs.PairLemmas.{name-other, name-own}
 use Rattle.nomos_index.proofs.RebindLemmas.{channels-of_pairs}
 
-module _ (s : Inside) (is : IsIndexed s) (born : Newborn) (k : KeptProcess) (span : Option Span)
+module _ (s : Inside) (is : IsIndexed s) (born : Newborn) (k : KeptProcess) (span : Option Span) (ascends : Bool)
     (objects : Marking (Slot Kept)) (values : Shelving (VarId × Value)) (its_lists : Shelving (VarId × PotentialList))
     (reserved after : Marking Cell)
     (names : (p w : ℕ) → name_in reserved.now p w ≡ name_in s.contents.channels.now p w)
@@ -38,12 +38,13 @@ module _ (s : Inside) (is : IsIndexed s) (born : Newborn) (k : KeptProcess) (spa
     (marked : HaveSameNames s.contents.channels.marked reserved.marked) (again : after.marked ≡ reserved.marked)
     (o : objects.marked ≡ s.contents.objects.marked) (v : values.marked ≡ s.contents.values.marked)
     (l : its_lists.marked ≡ s.contents.lists.marked) (next : born.fields.pid ≡ s.contents.numbers.next_object)
-    (fields : k ≡ kept_of born.fields span)
+    (fields : k ≡ kept_of born.fields span ascends)
     (slots : objects.now
     ≡ s.contents.objects.now ++ (record { number = born.fields.pid; item = Some (kept.Process k) }) ∷ [])
     (rows : values.now ≡ s.contents.values.now ++ born.values.items ∷ [])
     (list_rows : its_lists.now ≡ s.contents.lists.now ++ born.lists.items ∷ [])
-    (spans : (w : ℕ) → IsSome (bound_to w born.channels.items) → HasVariable span w) where
+    (spans : (w : ℕ) → IsSome (bound_to w born.channels.items) → HasVariable span w)
+    (order : AscendsIf ascends born.values.items) where
   pub its_marks : HaveSameNames s.contents.channels.marked after.marked
   its_marks = subst (HaveSameNames s.contents.channels.marked) (sym again) marked
 
@@ -63,7 +64,8 @@ module _ (s : Inside) (is : IsIndexed s) (born : Newborn) (k : KeptProcess) (spa
       born.lists.items
   born-comes = record {
     is_next = next;
-    brings = tt;
+    fits =
+        subst (λ (n : KeptProcess). AscendsIf n.ascends born.values.items) (sym fields) order;
     its_own = λ w some.
         subst (λ (n : KeptProcess). HasVariable n.span w) (sym fields)
         (spans w (subst (λ (o : Option ℕ). IsSome o) (named w) some));
@@ -98,7 +100,7 @@ module _ (s : Inside) (is : IsIndexed s) (born : Newborn) (k : KeptProcess) (spa
       born.lists.items born-comes
       ∙ ap (λ (n : KeptProcess). with_object (object.Process (held n (channels_of after.now born.fields.pid)))
       (state_of (held_now s.contents))) fields
-      ∙ ap (λ (channels : List (VarId × ℕ)). with_object (object.Process (held (kept_of born.fields span) channels))
+      ∙ ap (λ (channels : List (VarId × ℕ)). with_object (object.Process (held (kept_of born.fields span ascends) channels))
       (state_of (held_now s.contents))) its_channels
 
   pub born-marks : option_map state_of (held_marked born_after s.marked)

@@ -1,5 +1,5 @@
 -- A process of an indexed state changes: one part of what is kept of it at a time.
-use Rattle.std.proofs.Common.{◌≡◌, ◌≢◌, ◌≤◌, ◌+◌, ◌-◌, ◌∙◌, ℕ, [], List, IsSome, Option, Some, refl, sym, ap, subst, arith}
+use Rattle.std.proofs.Common.{◌≡◌, ◌≢◌, ◌≤◌, ◌+◌, ◌-◌, ◌∙◌, ℕ, Bool, [], List, IsSome, Option, Some, refl, sym, ap, subst, arith}
 use Rattle.std.proofs.lemmas.List.{set-get_or}
 use Rattle.std.specs.List.{slice_set}
 use Rattle.nomos_ir.specs.Value.{Value}
@@ -16,7 +16,7 @@ use Rattle.nomos_slots.specs.declared.numbered.Slot.{Slot}
 use Rattle.nomos_slots.proofs.NumberLaws.{put_at-own}
 use Rattle.nomos_index.specs.Indexed.{IsIndexed, held_now, state_of}
 use Rattle.nomos_index.specs.Looked.{ProcessIsAt, lists_at, values_at}
-use Rattle.nomos_index.specs.Objects.{ListRow, ValueRow, channels_of, process_held}
+use Rattle.nomos_index.specs.Objects.{AscendsIf, ListRow, ValueRow, channels_of, process_held}
 use Rattle.nomos_index.specs.Placing.{ProcessComes}
 use Rattle.nomos_index.specs.Spanning.{HasVariable}
 use Rattle.nomos_index.specs.declared.inside.Columns.{Columns}
@@ -26,7 +26,7 @@ use Rattle.nomos_index.specs.declared.kept.Kept.TheVariants as kept
 use Rattle.nomos_index.specs.declared.kept.KeptProcess.{KeptProcess}
 use Rattle.nomos_index.specs.declared.span.Span.{Span}
 use Rattle.nomos_index.proofs.AgainLemmas.{indexed-again}
-use Rattle.nomos_index.proofs.ProcessLemmas.{process-becomes, process-holding, slot-kept, spans-kept}
+use Rattle.nomos_index.proofs.ProcessLemmas.{ascends-kept, process-becomes, process-holding, slot-kept, spans-kept}
 use Rattle.nomos_index.proofs.TogetherLemmas.{same-names}
 
 module _ (s : Inside) (is : IsIndexed s) (pid place : ℕ) (k : KeptProcess)
@@ -38,13 +38,13 @@ module _ (s : Inside) (is : IsIndexed s) (pid place : ℕ) (k : KeptProcess)
   lists_row = lists_at (held_now s.contents) place
 
   -- what is not changed, as a change
-  same_slots : s.contents.objects.now ≡ put_at s.contents.objects.now place (Some (kept.Process k))
+  pub same_slots : s.contents.objects.now ≡ put_at s.contents.objects.now place (Some (kept.Process k))
   same_slots = sym (put_at-own s.contents.objects.now place _ (slot-kept s.contents.objects.now place pid (kept.Process k) at.at))
 
   same_values : s.contents.values.now ≡ slice_set s.contents.values.now place values_row
   same_values = sym (set-get_or s.contents.values.now place [])
 
-  same_lists : s.contents.lists.now ≡ slice_set s.contents.lists.now place lists_row
+  pub same_lists : s.contents.lists.now ≡ slice_set s.contents.lists.now place lists_row
   same_lists = sym (set-get_or s.contents.lists.now place [])
 
   same_cells : HaveSameNames s.contents.channels.marked s.contents.channels.marked
@@ -54,11 +54,15 @@ module _ (s : Inside) (is : IsIndexed s) (pid place : ℕ) (k : KeptProcess)
   own_spans : (w : ℕ) → IsSome (name_in s.contents.channels.now pid w) → HasVariable k.span w
   own_spans = spans-kept (held_now s.contents) is.now place pid (kept.Process k) at.at
 
+  -- its values ascend, where that is kept of it
+  own_order : AscendsIf k.ascends values_row
+  own_order = ascends-kept (held_now s.contents) is.now place pid k at.at
+
   -- ---- other plain fields
 
   module _ (objects : Marking (Slot Kept)) (next : KeptProcess)
       (now : objects.now ≡ put_at s.contents.objects.now place (Some (kept.Process next))) (span : next.span ≡ k.span)
-      (marked : objects.marked ≡ s.contents.objects.marked) (room : s.contents.objects.room ≤ objects.room) where
+      (order : next.ascends ≡ k.ascends) (marked : objects.marked ≡ s.contents.objects.marked) (room : s.contents.objects.room ≤ objects.room) where
     abbrev pub with_objects : Columns
     with_objects = record s.contents { objects = objects }
 
@@ -78,12 +82,15 @@ module _ (s : Inside) (is : IsIndexed s) (pid place : ℕ) (k : KeptProcess)
     fields_span : (w : ℕ) → IsSome (name_in s.contents.channels.now pid w) → HasVariable next.span w
     fields_span w some = subst (λ o. HasVariable o w) (sym span) (own_spans w some)
 
+    fields_order : AscendsIf next.ascends values_row
+    fields_order = subst (λ b. AscendsIf b values_row) (sym order) own_order
+
     pub fields-indexed : IsIndexed (record s { contents = with_objects })
     fields-indexed =
         indexed-again s objects s.contents.values s.contents.lists s.contents.channels s.contents.numbers marked refl refl
         same_cells s.room is
         (process-holding (held_now s.contents) (held_now with_objects) is.now pid place k next values_row lists_row at
-        fields-come fields_span)
+        fields-come fields_span fields_order)
         (record {
           objects = omega (arith, room, is.has_room.objects);
           values = is.has_room.values;
@@ -98,7 +105,7 @@ module _ (s : Inside) (is : IsIndexed s) (pid place : ℕ) (k : KeptProcess)
         → Becomes (state_of (held_now s.contents)) pid f (state_of (held_now with_objects))
     fields-become f same =
         process-becomes (held_now s.contents) (held_now with_objects) is.now pid place k next values_row lists_row at
-        fields-come fields_span f same
+        fields-come fields_span fields_order f same
 
   -- ---- other channels, in another span
 
@@ -133,7 +140,7 @@ module _ (s : Inside) (is : IsIndexed s) (pid place : ℕ) (k : KeptProcess)
         indexed-again s objects s.contents.values s.contents.lists channels s.contents.numbers also refl refl marked
         room is
         (process-holding (held_now s.contents) (held_now with_cells) is.now pid place k spanning values_row lists_row at
-        channels-come spans)
+        channels-come spans own_order)
         (record {
           objects = omega (arith, less, as_much, is.has_room.objects);
           values = omega (arith, less, is.has_room.values);
@@ -148,7 +155,7 @@ module _ (s : Inside) (is : IsIndexed s) (pid place : ℕ) (k : KeptProcess)
         → Becomes (state_of (held_now s.contents)) pid f (state_of (held_now with_cells))
     channels-become b f bound same =
         process-becomes (held_now s.contents) (held_now with_cells) is.now pid place k spanning values_row lists_row at
-        channels-come spans f
+        channels-come spans own_order f
         (same
         ∙ ap (λ (c : List (VarId × ℕ)). record (process_held s.contents.channels.now pid values_row lists_row k) { channels = c })
         (sym bound))
@@ -174,18 +181,28 @@ module _ (s : Inside) (is : IsIndexed s) (pid place : ℕ) (k : KeptProcess)
         channels-become s.contents.objects k.span channels room same_slots refl (omega arith) others
         (λ w some. own_spans w (fewer w some)) marked less has
 
-  -- ---- other values
+  -- ---- other values, of which it is kept whether they ascend, and other lists
 
-  module _ (values : Shelving (VarId × Value)) (row : ValueRow) (now : values.now ≡ slice_set s.contents.values.now place row)
-      (marked : values.marked ≡ s.contents.values.marked) (less : s.contents.values.room ≤ values.room + 1) where
-    abbrev pub with_value_rows : Columns
-    with_value_rows = record s.contents { values = values }
+  module _ (objects : Marking (Slot Kept)) (values : Shelving (VarId × Value)) (its_lists : Shelving (VarId × PotentialList))
+      (ascends : Bool) (row : ValueRow) (list_row : ListRow) (room : ℕ)
+      (now : objects.now ≡ put_at s.contents.objects.now place (Some (kept.Process (record k { ascends = ascends }))))
+      (rows : values.now ≡ slice_set s.contents.values.now place row)
+      (list_rows : its_lists.now ≡ slice_set s.contents.lists.now place list_row)
+      (order : AscendsIf ascends row) (also : objects.marked ≡ s.contents.objects.marked)
+      (marked : values.marked ≡ s.contents.values.marked) (its_marked : its_lists.marked ≡ s.contents.lists.marked)
+      (less : room ≤ s.room) (as_much : s.contents.objects.room ≤ objects.room) (has : room ≤ values.room)
+      (has_lists : room ≤ its_lists.room) where
+    abbrev pub with_rows : Columns
+    with_rows = record s.contents { objects = objects; values = values; lists = its_lists }
 
-    values-come : ProcessComes (held_now s.contents) (held_now with_value_rows) pid place k row lists_row
-    values-come = record {
-      slots = same_slots;
-      value_rows = now;
-      list_rows = same_lists;
+    abbrev ordered : KeptProcess
+    ordered = record k { ascends = ascends }
+
+    rows-come : ProcessComes (held_now s.contents) (held_now with_rows) pid place ordered row list_row
+    rows-come = record {
+      slots = now;
+      value_rows = rows;
+      list_rows = list_rows;
       others = λ p v other. refl;
       names = refl;
       balances = refl;
@@ -194,67 +211,64 @@ module _ (s : Inside) (is : IsIndexed s) (pid place : ℕ) (k : KeptProcess)
       drawn = refl;
     }
 
-    pub values-indexed : IsIndexed (record s { contents = with_value_rows; room = s.room - 1 })
-    values-indexed =
-        indexed-again s s.contents.objects values s.contents.lists s.contents.channels s.contents.numbers refl marked refl
-        same_cells (s.room - 1) is
-        (process-holding (held_now s.contents) (held_now with_value_rows) is.now pid place k k row lists_row at
-        values-come own_spans)
+    pub rows-indexed : IsIndexed (record s { contents = with_rows; room = room })
+    rows-indexed =
+        indexed-again s objects values its_lists s.contents.channels s.contents.numbers also marked its_marked same_cells
+        room is
+        (process-holding (held_now s.contents) (held_now with_rows) is.now pid place k ordered row list_row at rows-come
+        own_spans order)
         (record {
-          objects = omega (arith, is.has_room.objects);
-          values = omega (arith, less, is.has_room.values);
-          its_lists = omega (arith, is.has_room.its_lists);
-          channels = omega (arith, is.has_room.channels);
-          names = omega (arith, is.has_room.names);
+          objects = omega (arith, less, as_much, is.has_room.objects);
+          values = has;
+          its_lists = has_lists;
+          channels = omega (arith, less, is.has_room.channels);
+          names = omega (arith, less, is.has_room.names);
         })
+
+    pub rows-become : (f : Process → Process)
+        → f (process_held s.contents.channels.now pid values_row lists_row k)
+        ≡ process_held s.contents.channels.now pid row list_row k
+        → Becomes (state_of (held_now s.contents)) pid f (state_of (held_now with_rows))
+    rows-become f same =
+        process-becomes (held_now s.contents) (held_now with_rows) is.now pid place k ordered row list_row at rows-come
+        own_spans order f same
+
+  -- the values alone, where they ascend if they did
+
+  module _ (values : Shelving (VarId × Value)) (row : ValueRow) (now : values.now ≡ slice_set s.contents.values.now place row)
+      (order : AscendsIf k.ascends row) (marked : values.marked ≡ s.contents.values.marked)
+      (less : s.contents.values.room ≤ values.room + 1) where
+    pub values-indexed : IsIndexed (record s { contents = record s.contents { values = values }; room = s.room - 1 })
+    values-indexed =
+        rows-indexed s.contents.objects values s.contents.lists k.ascends row lists_row (s.room - 1) same_slots now
+        same_lists order refl marked refl (omega arith) (omega arith) (omega (arith, less, is.has_room.values))
+        (omega (arith, is.has_room.its_lists))
 
     pub values-become : (f : Process → Process)
         → f (process_held s.contents.channels.now pid values_row lists_row k)
         ≡ process_held s.contents.channels.now pid row lists_row k
-        → Becomes (state_of (held_now s.contents)) pid f (state_of (held_now with_value_rows))
-    values-become f same =
-        process-becomes (held_now s.contents) (held_now with_value_rows) is.now pid place k k row lists_row at
-        values-come own_spans f same
+        → Becomes (state_of (held_now s.contents)) pid f (state_of (held_now (record s.contents { values = values })))
+    values-become =
+        rows-become s.contents.objects values s.contents.lists k.ascends row lists_row (s.room - 1) same_slots now
+        same_lists order refl marked refl (omega arith) (omega arith) (omega (arith, less, is.has_room.values))
+        (omega (arith, is.has_room.its_lists))
 
-  -- ---- other lists
+  -- the lists alone
 
   module _ (its_lists : Shelving (VarId × PotentialList)) (row : ListRow)
       (now : its_lists.now ≡ slice_set s.contents.lists.now place row)
       (marked : its_lists.marked ≡ s.contents.lists.marked) (less : s.contents.lists.room ≤ its_lists.room + 1) where
-    abbrev pub with_list_rows : Columns
-    with_list_rows = record s.contents { lists = its_lists }
-
-    lists-come : ProcessComes (held_now s.contents) (held_now with_list_rows) pid place k values_row row
-    lists-come = record {
-      slots = same_slots;
-      value_rows = same_values;
-      list_rows = now;
-      others = λ p v other. refl;
-      names = refl;
-      balances = refl;
-      outside = refl;
-      results = refl;
-      drawn = refl;
-    }
-
-    pub lists-indexed : IsIndexed (record s { contents = with_list_rows; room = s.room - 1 })
+    pub lists-indexed : IsIndexed (record s { contents = record s.contents { lists = its_lists }; room = s.room - 1 })
     lists-indexed =
-        indexed-again s s.contents.objects s.contents.values its_lists s.contents.channels s.contents.numbers refl refl marked
-        same_cells (s.room - 1) is
-        (process-holding (held_now s.contents) (held_now with_list_rows) is.now pid place k k values_row row at
-        lists-come own_spans)
-        (record {
-          objects = omega (arith, is.has_room.objects);
-          values = omega (arith, is.has_room.values);
-          its_lists = omega (arith, less, is.has_room.its_lists);
-          channels = omega (arith, is.has_room.channels);
-          names = omega (arith, is.has_room.names);
-        })
+        rows-indexed s.contents.objects s.contents.values its_lists k.ascends values_row row (s.room - 1) same_slots
+        same_values now own_order refl refl marked (omega arith) (omega arith) (omega (arith, is.has_room.values))
+        (omega (arith, less, is.has_room.its_lists))
 
     pub lists-become : (f : Process → Process)
         → f (process_held s.contents.channels.now pid values_row lists_row k)
         ≡ process_held s.contents.channels.now pid values_row row k
-        → Becomes (state_of (held_now s.contents)) pid f (state_of (held_now with_list_rows))
-    lists-become f same =
-        process-becomes (held_now s.contents) (held_now with_list_rows) is.now pid place k k values_row row at
-        lists-come own_spans f same
+        → Becomes (state_of (held_now s.contents)) pid f (state_of (held_now (record s.contents { lists = its_lists })))
+    lists-become =
+        rows-become s.contents.objects s.contents.values its_lists k.ascends values_row row (s.room - 1) same_slots
+        same_values now own_order refl refl marked (omega arith) (omega arith) (omega (arith, is.has_room.values))
+        (omega (arith, less, is.has_room.its_lists))

@@ -11,7 +11,7 @@ use Rattle.nomos_slots.specs.declared.numbered.Slot.{Slot}
 use Rattle.nomos_slots.proofs.GapLaws.{all-closed, ascending-close, filled, found-close}
 use Rattle.nomos_index.specs.Closing.{AreBeside}
 use Rattle.nomos_index.specs.Indexed.{Holding, IsHolding, state_of}
-use Rattle.nomos_index.specs.Objects.{AreBrought, BringsIt, ListRow, ValueRow, object_of, objects_of, types_of}
+use Rattle.nomos_index.specs.Objects.{FitRows, FitsRow, ListRow, ValueRow, object_of, objects_of, types_of}
 use Rattle.nomos_index.specs.Spanning.{Spans}
 use Rattle.nomos_index.specs.declared.kept.Kept.{Kept}
 
@@ -93,43 +93,43 @@ module _ (cells : List Cell) where
       ap (λ os. option_to_list (option_map (object_of cells s.number v l) s.item) ++ os)
       (objects-closed from slots vs ls (omega arith) (omega arith))
 
--- ---- what messages bring
+-- ---- rows that fit what is kept
 
-brought-head : (s : Slot Kept) (slots : List (Slot Kept)) (r : ValueRow) (rows : List ValueRow)
-    → AreBrought (s ∷ slots) (r ∷ rows) → BringsIt s.item r
-brought-head s slots r rows all = all 0 s refl
+fit-head : (s : Slot Kept) (slots : List (Slot Kept)) (r : ValueRow) (rows : List ValueRow)
+    → FitRows (s ∷ slots) (r ∷ rows) → FitsRow s.item r
+fit-head s slots r rows all = all 0 s refl
 
-brought-tail : (s : Slot Kept) (slots : List (Slot Kept)) (r : ValueRow) (rows : List ValueRow)
-    → AreBrought (s ∷ slots) (r ∷ rows) → AreBrought slots rows
-brought-tail s slots r rows all place slot at = all (suc place) slot at
+fit-tail : (s : Slot Kept) (slots : List (Slot Kept)) (r : ValueRow) (rows : List ValueRow)
+    → FitRows (s ∷ slots) (r ∷ rows) → FitRows slots rows
+fit-tail s slots r rows all place slot at = all (suc place) slot at
 
-brought-cons : (s : Slot Kept) (slots : List (Slot Kept)) (r : ValueRow) (rows : List ValueRow)
-    → BringsIt s.item r → AreBrought slots rows → AreBrought (s ∷ slots) (r ∷ rows)
-brought-cons s slots r rows own all zero slot at =
-    subst (λ (x : Slot Kept). BringsIt x.item r) (same_Some s slot at) own
-brought-cons s slots r rows own all (suc place) slot at = all place slot at
+fit-cons : (s : Slot Kept) (slots : List (Slot Kept)) (r : ValueRow) (rows : List ValueRow)
+    → FitsRow s.item r → FitRows slots rows → FitRows (s ∷ slots) (r ∷ rows)
+fit-cons s slots r rows own all zero slot at =
+    subst (λ (x : Slot Kept). FitsRow x.item r) (same_Some s slot at) own
+fit-cons s slots r rows own all (suc place) slot at = all place slot at
 
-brought-filled : (slots : List (Slot Kept)) (rows : List ValueRow) → length rows ≡ length slots → AreBrought slots rows
-    → AreBrought (filled slots) (close_rows zero slots rows)
-brought-filled [] rows long all = λ place slot at. absurd (none-some slot at)
-brought-filled (s ∷ slots) [] long all = absurd (omega arith)
-brought-filled (s ∷ slots) (r ∷ rows) long all =
-    at (is_some s.item) (brought-filled slots rows (omega arith) (brought-tail s slots r rows all))
+fit-filled : (slots : List (Slot Kept)) (rows : List ValueRow) → length rows ≡ length slots → FitRows slots rows
+    → FitRows (filled slots) (close_rows zero slots rows)
+fit-filled [] rows long all = λ place slot at. absurd (none-some slot at)
+fit-filled (s ∷ slots) [] long all = absurd (omega arith)
+fit-filled (s ∷ slots) (r ∷ rows) long all =
+    at (is_some s.item) (fit-filled slots rows (omega arith) (fit-tail s slots r rows all))
   where
-    at : (b : Bool) → AreBrought (filled slots) (close_rows zero slots rows)
-        → AreBrought (cond b (s ∷ filled slots) (filled slots))
+    at : (b : Bool) → FitRows (filled slots) (close_rows zero slots rows)
+        → FitRows (cond b (s ∷ filled slots) (filled slots))
         (cond b (r ∷ close_rows zero slots rows) (close_rows zero slots rows))
-    at true rest = brought-cons s (filled slots) r (close_rows zero slots rows) (brought-head s slots r rows all) rest
+    at true rest = fit-cons s (filled slots) r (close_rows zero slots rows) (fit-head s slots r rows all) rest
     at false rest = rest
 
-pub brought-closed : (from : ℕ) (slots : List (Slot Kept)) (rows : List ValueRow) → length rows ≡ length slots
-    → AreBrought slots rows → AreBrought (close_gaps from slots) (close_rows from slots rows)
-brought-closed zero slots rows long all = brought-filled slots rows long all
-brought-closed (suc from) [] rows long all = λ place slot at. absurd (none-some slot at)
-brought-closed (suc from) (s ∷ slots) [] long all = absurd (omega arith)
-brought-closed (suc from) (s ∷ slots) (r ∷ rows) long all =
-    brought-cons s (close_gaps from slots) r (close_rows from slots rows) (brought-head s slots r rows all)
-    (brought-closed from slots rows (omega arith) (brought-tail s slots r rows all))
+pub fit-closed : (from : ℕ) (slots : List (Slot Kept)) (rows : List ValueRow) → length rows ≡ length slots
+    → FitRows slots rows → FitRows (close_gaps from slots) (close_rows from slots rows)
+fit-closed zero slots rows long all = fit-filled slots rows long all
+fit-closed (suc from) [] rows long all = λ place slot at. absurd (none-some slot at)
+fit-closed (suc from) (s ∷ slots) [] long all = absurd (omega arith)
+fit-closed (suc from) (s ∷ slots) (r ∷ rows) long all =
+    fit-cons s (close_gaps from slots) r (close_rows from slots rows) (fit-head s slots r rows all)
+    (fit-closed from slots rows (omega arith) (fit-tail s slots r rows all))
 
 -- ---- the types of names
 
@@ -175,7 +175,7 @@ module _ (h : Holding) (from : ℕ) where
     below = all-closed (λ n. n < h.drawn.next_object) from h.slots is.below;
     names_ascending = is.names_ascending;
     names_below = is.names_below;
-    brought = brought-closed from h.slots h.value_rows is.value_rows is.brought;
+    fit = fit-closed from h.slots h.value_rows is.value_rows is.fit;
     held = λ p v some. subst (λ o. Spans o v) (sym (found-close from h.slots p is.ascending)) (is.held p v some);
   }
 
@@ -187,7 +187,7 @@ module _ (h : Holding) (from : ℕ) where
     below = is.below;
     names_ascending = ascending-close from h.names is.names_ascending;
     names_below = all-closed (λ n. n < h.drawn.next_name) from h.names is.names_below;
-    brought = is.brought;
+    fit = is.fit;
     held = is.held;
   }
 

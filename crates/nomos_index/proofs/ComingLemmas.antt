@@ -22,7 +22,7 @@ use Rattle.nomos_slots.specs.declared.numbered.Slot.{Slot}
 use Rattle.nomos_slots.proofs.NumberLaws.{ascending-push, found-push, found-push_other}
 use Rattle.nomos_index.specs.Coming.{ObjectComes}
 use Rattle.nomos_index.specs.Indexed.{Holding, HasRoom, IsHolding, IsIndexed, held_now, state_of}
-use Rattle.nomos_index.specs.Objects.{AreBrought, AreHeld, BringsIt, ListRow, ValueRow, message_held, object_of, objects_of}
+use Rattle.nomos_index.specs.Objects.{FitRows, AreHeld, FitsRow, ListRow, ValueRow, message_held, object_of, objects_of}
 use Rattle.nomos_index.specs.Spanning.{Spans}
 use Rattle.nomos_index.specs.declared.inside.Columns.{Columns}
 use Rattle.nomos_index.specs.declared.inside.Inside.TheInside.{Inside}
@@ -51,16 +51,16 @@ objects-append cells (s ∷ slots) (w ∷ vs) (m ∷ ls) n k v l long also =
     ap (λ os. first ++ os) (objects-append cells slots vs ls n k v l (omega arith) (omega arith))
     ∙ sym (append_assoc first (objects_of cells slots vs ls) (object_of cells n v l k ∷ []))
 
-brought-push : (slots : List (Slot Kept)) (rows : List ValueRow) (s : Slot Kept) (v : ValueRow)
-    → length rows ≡ length slots → AreBrought slots rows → BringsIt s.item v → AreBrought (slots ++ s ∷ []) (rows ++ v ∷ [])
-brought-push [] [] s v long all own zero slot at =
-    subst (λ (x : Slot Kept). BringsIt x.item v) (same_Some s slot at) own
-brought-push [] [] s v long all own (suc place) slot at = absurd (none-some slot at)
-brought-push [] (r ∷ rows) s v long all own place slot at = absurd (omega arith)
-brought-push (e ∷ slots) [] s v long all own place slot at = absurd (omega arith)
-brought-push (e ∷ slots) (r ∷ rows) s v long all own zero slot at = all zero slot at
-brought-push (e ∷ slots) (r ∷ rows) s v long all own (suc place) slot at =
-    brought-push slots rows s v (omega arith) (λ p t h. all (suc p) t h) own place slot at
+fit-push : (slots : List (Slot Kept)) (rows : List ValueRow) (s : Slot Kept) (v : ValueRow)
+    → length rows ≡ length slots → FitRows slots rows → FitsRow s.item v → FitRows (slots ++ s ∷ []) (rows ++ v ∷ [])
+fit-push [] [] s v long all own zero slot at =
+    subst (λ (x : Slot Kept). FitsRow x.item v) (same_Some s slot at) own
+fit-push [] [] s v long all own (suc place) slot at = absurd (none-some slot at)
+fit-push [] (r ∷ rows) s v long all own place slot at = absurd (omega arith)
+fit-push (e ∷ slots) [] s v long all own place slot at = absurd (omega arith)
+fit-push (e ∷ slots) (r ∷ rows) s v long all own zero slot at = all zero slot at
+fit-push (e ∷ slots) (r ∷ rows) s v long all own (suc place) slot at =
+    fit-push slots rows s v (omega arith) (λ p t h. all (suc p) t h) own place slot at
 
 numbers-push : (slots : List (Slot Kept)) (s : Slot Kept) → numbers (slots ++ s ∷ []) ≡ numbers slots ++ s.number ∷ []
 numbers-push [] s = refl
@@ -171,10 +171,10 @@ module _ (before after : Holding) (is : IsHolding before) (n : ℕ) (k : Kept) (
             let Below : List (Slot TypeId) → Numbers → Type 0 = λ names d. All (λ m. m < d.next_name) (numbers names) in
             subst (λ (d : Numbers). Below after.names d) (sym comes.drawn)
             (subst (λ (names : List (Slot TypeId)). Below names before.drawn) (sym comes.names) is.names_below);
-        brought =
-            subst (λ (rows : List ValueRow). AreBrought after.slots rows) (sym comes.value_rows)
-            (subst (λ (xs : List (Slot Kept)). AreBrought xs (before.value_rows ++ v ∷ [])) (sym slots)
-            (brought-push before.slots before.value_rows slot v is.value_rows is.brought comes.brings));
+        fit =
+            subst (λ (rows : List ValueRow). FitRows after.slots rows) (sym comes.value_rows)
+            (subst (λ (xs : List (Slot Kept)). FitRows xs (before.value_rows ++ v ∷ [])) (sym slots)
+            (fit-push before.slots before.value_rows slot v is.value_rows is.fit comes.fits));
         held =
             subst (λ (xs : List (Slot Kept)). AreHeld xs after.cells) (sym slots) held-come;
       }
@@ -216,7 +216,7 @@ module _ (s : Inside) (is : IsIndexed s) (n : ℕ) (k : KeptMessage) (row : Valu
     message-comes : ObjectComes (held_now s.contents) (held_now message_after) n (kept.Message k) row []
     message-comes = record {
       is_next = next;
-      brings = brings;
+      fits = brings;
       its_own = λ w some. absurd (both_ways _ (ap is_some (next-unnamed (held_now s.contents) is.now n w next)) some);
       others = λ p w other. refl;
       slots = slots;

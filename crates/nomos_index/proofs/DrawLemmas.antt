@@ -21,7 +21,7 @@ holding-drawn h next_object next_name is object name = record {
   names_below =
       All-weaker (λ n. n < h.drawn.next_name) (λ n. n < next_name) (λ n under. omega (arith, under, name))
       (numbers h.names) is.names_below;
-  brought = is.brought;
+  fit = is.fit;
   held = is.held;
 }
 

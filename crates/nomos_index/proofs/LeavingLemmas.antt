@@ -67,7 +67,7 @@ module _ (s : Inside) (is : IsIndexed s) (number place : ℕ) (k : Kept)
   can : CanPlace (held_now s.contents) place number k None [] channels.now
   can = record {
     stood = slot-kept s.contents.objects.now place number k at.at;
-    brings = tt;
+    fits = tt;
     others = others;
     its_own = λ w some. both_ways _ (ap is_some (gone w)) some;
   }

@@ -8,7 +8,9 @@ pub mod CopyLemmas
 pub mod DrawLemmas
 pub mod FoundLemmas
 pub mod LeavingLemmas
+pub mod ListRowLemmas
 pub mod LookLemmas
+pub mod OnceLemmas
 pub mod PairLemmas
 pub mod PlaceLemmas
 pub mod PotentialLemmas

@@ -17,7 +17,7 @@ use Rattle.nomos_slots.specs.Numbers.{IsAscending, found, numbers, put_at}
 use Rattle.nomos_slots.specs.declared.numbered.Slot.{Slot}
 use Rattle.nomos_slots.proofs.NumberLaws.{found-put_at, found-put_at_other, get-put_at, get-put_at_other, length-put_at, numbers-put_at}
 use Rattle.nomos_index.specs.Indexed.{Holding, IsHolding, state_of}
-use Rattle.nomos_index.specs.Objects.{BringsIt, ListRow, ValueRow, object_of, objects_of}
+use Rattle.nomos_index.specs.Objects.{FitsRow, ListRow, ValueRow, object_of, objects_of}
 use Rattle.nomos_index.specs.Placing.{CanPlace, PlaceComes, with_place}
 use Rattle.nomos_index.specs.Spanning.{Spans}
 use Rattle.nomos_index.specs.declared.kept.Kept.{Kept}
@@ -120,9 +120,9 @@ module _ (h : Holding) (is : IsHolding h) (place n : ℕ) (k : Kept) (item : Opt
   within : place < length h.value_rows
   within = omega (arith, is.value_rows, slice_get_within h.slots place _ can.stood)
 
-  brought-placed : (other : ℕ) (slot : Slot Kept) → slice_get (put_at h.slots place item) other ≡ Some slot
-      → BringsIt slot.item (slice_index_or (set h.value_rows place v) other [])
-  brought-placed other slot at =
+  fit-placed : (other : ℕ) (slot : Slot Kept) → slice_get (put_at h.slots place item) other ≡ Some slot
+      → FitsRow slot.item (slice_index_or (set h.value_rows place v) other [])
+  fit-placed other slot at =
       elim (cases_eq other place) [
         | inl same ↦
             let own : slice_get (put_at h.slots place item) other ≡ Some (record { number = n; item = item }) =
@@ -130,11 +130,11 @@ module _ (h : Holding) (is : IsHolding h) (place n : ℕ) (k : Kept) (item : Opt
             let item_is : item ≡ slot.item = ap (λ (s : Slot Kept). s.item) (same_Some _ slot (sym own ∙ at)) in
             let row : v ≡ slice_index_or (set h.value_rows place v) other [] =
             sym (ap (λ i. slice_index_or (set h.value_rows place v) i []) same ∙ get_or-set_same h.value_rows place v [] within) in
-            subst (λ i. BringsIt i (slice_index_or (set h.value_rows place v) other [])) item_is
-            (subst (BringsIt item) row can.brings)
+            subst (λ i. FitsRow i (slice_index_or (set h.value_rows place v) other [])) item_is
+            (subst (FitsRow item) row can.fits)
         | inr apart ↦
-            subst (BringsIt slot.item) (sym (get_or-set_other h.value_rows place other v [] apart))
-            (is.brought other slot (sym (get-put_at_other h.slots place other item apart) ∙ at))
+            subst (FitsRow slot.item) (sym (get_or-set_other h.value_rows place other v [] apart))
+            (is.fit other slot (sym (get-put_at_other h.slots place other item apart) ∙ at))
       ]
 
   held-placed : (p w : ℕ) → IsSome (name_in cells p w) → Spans (found (put_at h.slots place item) p) w
@@ -160,7 +160,7 @@ module _ (h : Holding) (is : IsHolding h) (place n : ℕ) (k : Kept) (item : Opt
         below = subst (λ (xs : List ℕ). All (λ m. m < h.drawn.next_object) xs) (sym ns) is.below;
         names_ascending = is.names_ascending;
         names_below = is.names_below;
-        brought = brought-placed;
+        fit = fit-placed;
         held = held-placed;
       }
 

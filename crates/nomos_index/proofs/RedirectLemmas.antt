@@ -148,8 +148,8 @@ module _ (s : Inside) (is : IsIndexed s) (old new number place : ℕ) (m next : 
   can : CanPlace before place number (kept.Message m) (Some (kept.Message next)) (values_at before place) after.cells
   can = record {
     stood = stood;
-    brings = λ brings.
-        is.now.brought place (record { number = number; item = Some (kept.Message m) }) stood
+    fits = λ brings.
+        is.now.fit place (record { number = number; item = Some (kept.Message m) }) stood
         (brings-instead old new m.brings (sym (ap (λ (n : KeptMessage). n.brings) instead) ∙ brings));
     others = λ p w other. refl;
     its_own = λ w some.

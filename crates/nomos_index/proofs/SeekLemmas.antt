@@ -11,7 +11,7 @@ use Rattle.nomos_deeds.specs.Seen.{seen_process}
 use Rattle.nomos_slots.specs.Cells.{Cell}
 use Rattle.nomos_slots.specs.declared.numbered.Slot.{Slot}
 use Rattle.nomos_index.specs.Indexed.{Holding, IsHolding, standing_at, state_of}
-use Rattle.nomos_index.specs.Objects.{BringsIt, HasValue, ListRow, ValueRow, kept_at, kept_in, message_held, object_of, objects_of, process_held}
+use Rattle.nomos_index.specs.Objects.{FitsRow, HasValue, ListRow, ValueRow, kept_at, kept_in, message_held, object_of, objects_of, process_held}
 use Rattle.nomos_index.specs.Sought.{IsFirstPlace, some_passes}
 use Rattle.nomos_index.specs.declared.kept.Kept.{Kept}
 use Rattle.nomos_index.specs.declared.kept.Kept.TheVariants as kept
@@ -124,15 +124,15 @@ value-standing h is place n k holds = by_slot (slice_get h.slots place) refl hol
     apart : true ≡ false → ⊥
     apart e = cc
 
-    by_item : (s : Slot Kept) (item : Option Kept) → s.item ≡ item → BringsIt item row
+    by_item : (s : Slot Kept) (item : Option Kept) → s.item ≡ item → FitsRow item row
         → (let paired : Kept → ℕ × Kept = λ k. (s.number, k) in option_map paired item) ≡ Some (n, kept.Message k) → HasValue k.brings row
-    by_item s None is brought same = absurd (none-some (n, kept.Message k) same)
-    by_item s (Some (kept.Message q)) is brought same =
+    by_item s None is fits same = absurd (none-some (n, kept.Message k) same)
+    by_item s (Some (kept.Message q)) is fits same =
         let pair : (n, kept.Message k) ≡ (s.number, kept.Message q) =
         same_Some (n, kept.Message k) (s.number, kept.Message q) (sym same)
         in
-        subst (λ (e : ℕ × Kept). HasIt e.1) (sym pair) brought
-    by_item s (Some (kept.Process q)) is brought same =
+        subst (λ (e : ℕ × Kept). HasIt e.1) (sym pair) fits
+    by_item s (Some (kept.Process q)) is fits same =
         let pair : (n, kept.Message k) ≡ (s.number, kept.Process q) =
         same_Some (n, kept.Message k) (s.number, kept.Process q) (sym same)
         in
@@ -141,7 +141,7 @@ value-standing h is place n k holds = by_slot (slice_get h.slots place) refl hol
     by_slot : (o : Option (Slot Kept)) → slice_get h.slots place ≡ o → (o >>= kept_in) ≡ Some (n, kept.Message k)
         → HasValue k.brings row
     by_slot None there same = absurd (none-some (n, kept.Message k) same)
-    by_slot (Some s) there same = by_item s s.item refl (is.brought place s there) same
+    by_slot (Some s) there same = by_item s s.item refl (is.fit place s there) same
 
 -- what is seen of a process has its number
 pub pid-seen : (o : Option Process) → option_map (λ p. p.pid) (option_map seen_process o) ≡ option_map (λ p. p.pid) o

@@ -196,7 +196,7 @@ holding-named h names is same = record {
   below = is.below;
   names_ascending = subst (IsStrictlySortedBy nat_cmp) (sym same) is.names_ascending;
   names_below = subst (All (λ n. n < h.drawn.next_name)) (sym same) is.names_below;
-  brought = is.brought;
+  fit = is.fit;
   held = is.held;
 }
 
@@ -214,6 +214,6 @@ holding-come h t is = record {
   names_ascending = ascending-push h.names (record { number = h.drawn.next_name; item = Some t }) is.names_ascending
       is.names_below;
   names_below = below-push h.names h.drawn.next_name t is.names_below;
-  brought = is.brought;
+  fit = is.fit;
   held = is.held;
 }

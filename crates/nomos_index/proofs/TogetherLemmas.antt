@@ -9,7 +9,7 @@ use Rattle.nomos_slots.specs.Numbers.{IsAscending, numbers}
 use Rattle.nomos_slots.specs.Tables.{HaveSameNames}
 use Rattle.nomos_slots.specs.declared.numbered.Slot.{Slot}
 use Rattle.nomos_index.specs.Indexed.{AreMarkedTogether, Holding, IsHolding, held_marked, state_of}
-use Rattle.nomos_index.specs.Objects.{AreBrought, AreHeld, ListRow, ValueRow}
+use Rattle.nomos_index.specs.Objects.{FitRows, AreHeld, ListRow, ValueRow}
 use Rattle.nomos_index.specs.Together.{HoldsTheSame, MarksTheSame}
 use Rattle.nomos_index.specs.declared.inside.Columns.{Columns}
 use Rattle.nomos_index.specs.declared.inside.Numbers.{Numbers}
@@ -45,9 +45,9 @@ holding-same before after same is = record {
       let Below : List (Slot TypeId) → Numbers → Type 0 = λ names drawn. All (λ n. n < drawn.next_name) (numbers names) in
       subst (λ (d : Numbers). Below after.names d) (sym same.drawn)
       (subst (λ (s : List (Slot TypeId)). Below s before.drawn) (sym same.names) is.names_below);
-  brought =
-      subst (λ (r : List ValueRow). AreBrought after.slots r) (sym same.value_rows)
-      (subst (λ (s : List (Slot Kept)). AreBrought s before.value_rows) (sym same.slots) is.brought);
+  fit =
+      subst (λ (r : List ValueRow). FitRows after.slots r) (sym same.value_rows)
+      (subst (λ (s : List (Slot Kept)). FitRows s before.value_rows) (sym same.slots) is.fit);
   held =
       subst (λ (s : List (Slot Kept)). AreHeld s after.cells) (sym same.slots)
       (λ p v has. is.held p v (subst (λ (o : Option ℕ). IsSome o) (same.channels p v) has));

@@ -10,7 +10,7 @@ use Rattle.nomos_slots.specs.Cells.{Cell}
 use Rattle.nomos_slots.specs.Marking.{Marking}
 use Rattle.nomos_slots.specs.Numbers.{IsAscending, numbers}
 use Rattle.nomos_slots.specs.declared.numbered.Slot.{Slot}
-use Rattle.nomos_index.specs.Objects.{AreBrought, AreHeld, ListRow, ValueRow, kept_at, object_of, objects_of, types_of}
+use Rattle.nomos_index.specs.Objects.{FitRows, AreHeld, ListRow, ValueRow, kept_at, object_of, objects_of, types_of}
 use Rattle.nomos_index.specs.declared.inside.Columns.{Columns}
 use Rattle.nomos_index.specs.declared.inside.Inside.TheInside.{Inside}
 use Rattle.nomos_index.specs.declared.inside.Numbers.{Numbers}
@@ -68,7 +68,7 @@ pub record IsHolding (h : Holding) : Type 0 where
   pub below : All (λ n. n < h.drawn.next_object) (numbers h.slots)
   pub names_ascending : IsAscending h.names
   pub names_below : All (λ n. n < h.drawn.next_name) (numbers h.names)
-  pub brought : AreBrought h.slots h.value_rows
+  pub fit : FitRows h.slots h.value_rows
   pub held : AreHeld h.slots h.cells
 
 -- what is kept now

@@ -1,7 +1,7 @@
 -- The objects that slots, rows and cells stand for.
-use Rattle.std.specs.Prelude.{◌≡◌, ◌≤◌, ◌==◌, ◌+◌, ◌*◌, ℕ, cond, List, [], ◌∷◌, ◌++◌, length, Option, Some, None, IsSome, slice_get, slice_index_or}
+use Rattle.std.specs.Prelude.{◌≡◌, ◌≤◌, ◌==◌, ◌+◌, ◌*◌, ℕ, Bool, true, cond, List, [], ◌∷◌, ◌++◌, length, Option, Some, None, IsSome, slice_get, slice_index_or}
 use Rattle.std.specs.Option.{option_map, option_to_list}
-use Rattle.nomos_ir.specs.Bindings.{bindings_of}
+use Rattle.nomos_ir.specs.Bindings.{IsAscending, bindings_of}
 use Rattle.nomos_ir.specs.Value.{Value}
 use Rattle.nomos_ir.specs.declared.ids.TypeId.{TypeId}
 use Rattle.nomos_ir.specs.declared.ids.VarId.{VarId}
@@ -89,9 +89,10 @@ message_held number values k = record {
   purse = k.purse;
 }
 
--- what is kept of a process with these plain fields, whose channels stand in this span
-abbrev pub kept_of : SeenProcess → Option Span → KeptProcess
-kept_of fields span = record {
+-- what is kept of a process with these plain fields, whose channels stand in this span, and whose values are known to
+-- ascend or not
+abbrev pub kept_of : SeenProcess → Option Span → Bool → KeptProcess
+kept_of fields span ascends = record {
   mode = fields.mode;
   code = fields.code;
   offers = fields.offers;
@@ -99,6 +100,7 @@ kept_of fields span = record {
   purse = fields.purse;
   payer = fields.payer;
   span = span;
+  ascends = ascends;
 }
 
 -- the object of a number
@@ -131,14 +133,19 @@ types_of (slot ∷ slots) = option_to_list (option_map (λ t. (slot.number, t)) 
 abbrev pub HasValue : SeenPayload → ValueRow → Type 0
 HasValue brought values = brought ≡ seen.Value → 1 ≤ length values
 
--- a message that brings a value has it in its row
-abbrev pub BringsIt : Option Kept → ValueRow → Type 0
-BringsIt (Some (kept.Message k)) values = HasValue k.brings values
-BringsIt _ values = Unit {0}
+-- a row ascends, where that is known of it
+abbrev pub AscendsIf : Bool → ValueRow → Type 0
+AscendsIf known values = known ≡ true → IsAscending values
 
-abbrev pub AreBrought : List (Slot Kept) → List ValueRow → Type 0
-AreBrought slots rows = (place : ℕ) (slot : Slot Kept) → slice_get slots place ≡ Some slot
-    → BringsIt slot.item (slice_index_or rows place [])
+-- A message that brings a value has it in its row; the row of a process ascends, where that is kept of it.
+abbrev pub FitsRow : Option Kept → ValueRow → Type 0
+FitsRow (Some (kept.Message k)) values = HasValue k.brings values
+FitsRow (Some (kept.Process k)) values = AscendsIf k.ascends values
+FitsRow None values = Unit {0}
+
+abbrev pub FitRows : List (Slot Kept) → List ValueRow → Type 0
+FitRows slots rows = (place : ℕ) (slot : Slot Kept) → slice_get slots place ≡ Some slot
+    → FitsRow slot.item (slice_index_or rows place [])
 
 -- channels are those of processes that are there, each in the span of its process
 abbrev pub AreHeld : List (Slot Kept) → List Cell → Type 0

@@ -6,6 +6,7 @@ use nomos_deeds::sight::{SeenMessage, SeenProcess};
 use nomos_ir::ids::{TypeId, VarId};
 use nomos_ir::value::Value;
 use nomos_machine::object::{Message, PotentialList};
+use nomos_parts::list_change::ListChange;
 use nomos_parts::newborn::Newborn;
 use nomos_parts::parts::Parts;
 use std::alloc::{AllocError, Global};
@@ -80,6 +81,15 @@ impl Parts for Inside {
 
     fn put_lists(&mut self, pid: u32, lists: Vec<(VarId, PotentialList)>) {
         self.put_lists(pid, lists);
+    }
+
+    fn change_lists(
+        &mut self,
+        alloc: Global,
+        pid: u32,
+        change: ListChange,
+    ) -> Result<(), AllocError> {
+        self.change_lists(alloc, pid, change)
     }
 
     fn come_message(&mut self, alloc: Global, message: Message) -> Result<(), AllocError> {

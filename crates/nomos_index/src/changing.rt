@@ -1,18 +1,47 @@
 //! A process of an indexed state changes: its plain fields, its channels, its values, its lists.
-ghost use Rattle.std.specs.Prelude.{◌≡◌, ◌≤◌, ◌<◌, ◌+◌, OnErr, OnOk};
+ghost use Rattle.std.specs.Prelude.{◌≡◌, ◌≤◌, ◌<◌, ◌+◌, OnErr, OnOk, Some};
 ghost use Rattle.nomos_machine.specs.Revised.{with_channel, with_value, without_channel};
-ghost use Rattle.nomos_parts.specs.SmallChanges.{Becomes, with_fields, with_lists, with_values};
+ghost use Rattle.nomos_parts.specs.SmallChanges.{Becomes, with_fields, with_list_change, with_lists, with_values};
+ghost use Rattle.nomos_slots.specs.Numbers.{put_at};
+ghost use Rattle.nomos_index.specs.Objects.{kept_at};
+ghost use Rattle.nomos_index.specs.declared.kept.Kept.TheVariants as kept;
 
 use crate::inside::Inside;
 use crate::kept::{Kept, KeptProcess};
+use crate::list_rows::{change_row, own_row};
 use crate::looking::process_at;
-use crate::rows::bind_in;
+use crate::rows::{bind_if, bind_in};
 use crate::span::widened;
 use nomos_deeds::sight::SeenProcess;
 use nomos_ir::ids::VarId;
 use nomos_ir::value::Value;
 use nomos_machine::object::PotentialList;
+use nomos_parts::list_change::ListChange;
+use nomos_parts::pairs::is_map;
+use nomos_slots::numbered::Numbered;
 use std::alloc::{AllocError, Global};
+
+// It is kept of the process at a place whether its values are known to ascend; nothing is written where that is kept
+// already.
+fn keep_order(
+    objects: &mut Numbered<Kept>,
+    place: usize,
+    pid: u32,
+    before: KeptProcess,
+    ascends: bool,
+)
+    requires { kept_at objects.old.now place ≡ Some (pid, kept.Process before) }
+    ensures now { objects.new.now
+        ≡ put_at objects.old.now place (Some (kept.Process (record before { ascends = ascends }))) }
+    ensures marked { objects.new.marked ≡ objects.old.marked }
+    ensures room { objects.old.room ≤ objects.new.room }
+{
+    if ascends == before.ascends {
+        return;
+    }
+    let next = KeptProcess { ascends, ..before };
+    objects.put(place, Some(Kept::Process(next)));
+}
 
 impl Inside {
     /// The process of this number has these plain fields, but for the number, which it has already. It takes no room.
@@ -25,7 +54,7 @@ impl Inside {
         let Some((place, before)) = process_at(&self.contents, fields.pid) else {
             return;
         };
-        let next = KeptProcess::of(fields, before.span);
+        let next = KeptProcess::of(fields, before.span, before.ascends);
         self.contents.objects.put(place, Some(Kept::Process(next)));
     }
 
@@ -72,10 +101,16 @@ impl Inside {
         ensures room { self.old.room ≤ self.new.room + 1 }
         ensures marked { self.new.marked ≡ self.old.marked }
     {
-        let Some((place, _)) = process_at(&self.contents, pid) else {
+        let Some((place, before)) = process_at(&self.contents, pid) else {
             return Ok(());
         };
-        bind_in(&mut self.contents.values, alloc, place, v, x)?;
+        bind_in(
+            &mut self.contents.values,
+            alloc,
+            place,
+            (v, x),
+            before.ascends,
+        )?;
         self.room -= 1;
         Ok(())
     }
@@ -87,11 +122,47 @@ impl Inside {
         ensures room { self.old.room ≤ self.new.room + 1 }
         ensures marked { self.new.marked ≡ self.old.marked }
     {
-        let Some((place, _)) = process_at(&self.contents, pid) else {
+        let Some((place, before)) = process_at(&self.contents, pid) else {
             return;
         };
+        let ascends = is_map(&values);
+        keep_order(&mut self.contents.objects, place, pid, before, ascends);
         let _before = self.contents.values.replace(place, values);
         self.room -= 1;
+    }
+
+    /// One list of the process is used up, one is bound, and a value is, each if it is to be. It takes the room of two.
+    pub fn change_lists(
+        &mut self,
+        alloc: Global,
+        pid: u32,
+        change: ListChange,
+    ) -> Result<(), AllocError>
+        requires { 2 ≤ self.old.room }
+        ensures ok { OnOk result (Becomes self.old.state pid (with_list_change change) self.new.state) }
+        ensures err { OnErr result (self.new.state ≡ self.old.state) }
+        ensures room { self.old.room ≤ self.new.room + 2 }
+        ensures marked { self.new.marked ≡ self.old.marked }
+    {
+        let Some((place, before)) = process_at(&self.contents, pid) else {
+            return Ok(());
+        };
+        self.room -= 2;
+        own_row(&mut self.contents.lists, alloc, place)?;
+        let ListChange {
+            used_up,
+            bound,
+            value,
+        } = change;
+        bind_if(
+            &mut self.contents.values,
+            alloc,
+            place,
+            value,
+            before.ascends,
+        )?;
+        change_row(&mut self.contents.lists, place, used_up, bound);
+        Ok(())
     }
 
     /// The process has these lists.

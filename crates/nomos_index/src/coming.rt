@@ -14,6 +14,7 @@ use nomos_ir::ids::VarId;
 use nomos_ir::value::Value;
 use nomos_machine::object::{Message, Payload};
 use nomos_parts::newborn::Newborn;
+use nomos_parts::pairs::is_map;
 use std::alloc::{AllocError, Global};
 
 // What a message brings, and the row with its value.
@@ -82,7 +83,8 @@ impl Inside {
         let count = born.channels.len();
         reserve_names(&mut self.contents.channels, alloc, count, self.room)?;
         bind_pairs(&mut self.contents.channels, pid, &born.channels);
-        let kept = KeptProcess::of(born.fields, span_of(&born.channels));
+        let ascends = is_map(&born.values);
+        let kept = KeptProcess::of(born.fields, span_of(&born.channels), ascends);
         self.contents.objects.push(pid, Kept::Process(kept));
         self.contents.values.push(born.values);
         self.contents.lists.push(born.lists);

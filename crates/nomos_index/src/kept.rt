@@ -19,12 +19,15 @@ pub(crate) struct KeptProcess {
     pub(crate) payer: u32,
     /// From which variable to which its channels may stand.
     pub(crate) span: Option<Span>,
+    /// Whether it is known that its values stand in ascending order.
+    pub(crate) ascends: bool,
 }
 
 impl KeptProcess {
-    /// What is kept of a process with these plain fields, whose channels stand in this span.
-    pub(crate) fn of(fields: SeenProcess, span: Option<Span>) -> KeptProcess
-        ensures { result ≡ kept_of fields span }
+    /// What is kept of a process with these plain fields, whose channels stand in this span, and whose values are known
+    /// to ascend or not.
+    pub(crate) fn of(fields: SeenProcess, span: Option<Span>, ascends: bool) -> KeptProcess
+        ensures { result ≡ kept_of fields span ascends }
     {
         KeptProcess {
             mode: fields.mode,
@@ -34,6 +37,7 @@ impl KeptProcess {
             purse: fields.purse,
             payer: fields.payer,
             span,
+            ascends,
         }
     }
 }

@@ -12,6 +12,7 @@ mod data;
 pub mod inside;
 mod kept;
 mod leaving;
+mod list_rows;
 mod looking;
 mod marking;
 pub mod mentions;

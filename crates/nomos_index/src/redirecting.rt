@@ -1,7 +1,10 @@
 //! Whoever uses a name uses another one instead: the first that is found, or an object of which the number is known.
-ghost use Rattle.std.specs.Prelude.{◌≡◌, ◌≤◌, length, map};
+ghost use Rattle.std.specs.Prelude.{◌≡◌, ◌≤◌, Some, length, map};
 ghost use Rattle.std.specs.Option.{option_map};
+ghost use Rattle.nomos_ir.specs.Order.{count_of};
+ghost use Rattle.nomos_machine.specs.Objects.{object_at, used};
 ghost use Rattle.nomos_machine.specs.Revised.{renamed};
+ghost use Rattle.nomos_machine.specs.declared.object.Object.{Object as Thing};
 ghost use Rattle.nomos_parts.specs.SmallChanges.{redirected};
 ghost use Rattle.nomos_index.specs.Instead.{brings_instead, kept_instead};
 ghost use Rattle.nomos_index.specs.Redirected.{redirected_at};
@@ -88,6 +91,26 @@ impl Inside {
                 self.contents.objects.put(place, Some(Kept::Message(next)));
             }
             None => {}
+        }
+    }
+
+    /// The object of this number, which uses the old name once at most, uses the new one instead: a process for this
+    /// variable, if the old name is bound to it. It takes no room.
+    pub fn redirect_once(&mut self, number: u32, variable: u32, old: u32, new: u32)
+        requires { (o : Thing) → object_at self.old.state.objects number ≡ Some o → count_of old (used o) ≤ 1 }
+        ensures state { self.new.state ≡ record self.old.state
+            { objects = redirected_at number old new self.old.state.objects } }
+        ensures room { self.new.room ≡ self.old.room }
+        ensures marked { self.new.marked ≡ self.old.marked }
+    {
+        match object_at(&self.contents, number) {
+            Some((_, Kept::Process(_)))
+                if self.contents.channels.get(number, variable) == Some(old) => {
+                self.contents
+                    .channels
+                    .rename_one(number, variable, old, new);
+            }
+            _ => self.redirect_object(number, old, new),
         }
     }
 

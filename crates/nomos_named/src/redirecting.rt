@@ -20,7 +20,7 @@ impl Tallied {
         match self.found_by(Doing::Uses, old) {
             Found::Nobody => self.inside.rename_outside(old, new),
             Found::One(by) => {
-                self.inside.redirect_object(by.object, old, new);
+                self.inside.redirect_once(by.object, by.variable, old, new);
                 self.inside.rename_outside(old, new);
                 self.tallies.exchange(Doing::Uses, Some(old), Some(new), by);
             }

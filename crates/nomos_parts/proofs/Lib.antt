@@ -17,3 +17,4 @@ pub mod SayingLemmas
 pub mod SendActLemmas
 pub mod SharingLemmas
 pub mod StartingLemmas
+pub mod UnbindLaws

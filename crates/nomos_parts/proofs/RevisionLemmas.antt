@@ -119,3 +119,26 @@ parted-into w head tail p q made = at (bound_to w.0 p.lists) refl made
         → (o >>= λ l. with_parts head tail l l.items (list_used_up w p)) ≡ Some q → PartedInto w head tail p q
     at (Some l) found made = with-items l found l.items refl made
     at None found made = absurd cc
+
+-- ---- a list that gets one more element
+
+pub record LongerInto (v w : VarId) (first : ValueNode) (p q : Process) : Type 0 where
+  pub list : PotentialList
+  pub found : bound_to w.0 p.lists ≡ Some list
+  pub becomes : with_list v (lengthened (value_of first) list) (list_used_up w p) ≡ q
+
+pub longer-into : (v w : VarId) (first : ValueNode) (p q : Process) → revised (revision.Longer v w first) p ≡ Some q
+    → LongerInto v w first p q
+longer-into v w first p q made = at (bound_to w.0 p.lists) refl made
+  where
+    longer : PotentialList → Process
+    longer l = with_list v (lengthened (value_of first) l) (list_used_up w p)
+
+    at : (o : Option PotentialList) → bound_to w.0 p.lists ≡ o → (o >>= λ l. Some (longer l)) ≡ Some q
+        → LongerInto v w first p q
+    at (Some l) found made = record {
+      list = l;
+      found = found;
+      becomes = one-some (longer l) q made;
+    }
+    at None found made = absurd cc

@@ -1,7 +1,7 @@
 -- The small changes of a state that acts are made of.
 use Rattle.std.specs.Prelude.{◌≡◌, ◌+◌, ◌++◌, ◌∷◌, ℕ, List, [], map, Option, Some, None}
 use Rattle.std.specs.Option.{option_to_list}
-use Rattle.nomos_ir.specs.Bindings.{bindings_of}
+use Rattle.nomos_ir.specs.Bindings.{bind, bindings_of, unbind}
 use Rattle.nomos_ir.specs.Value.{Value}
 use Rattle.nomos_ir.specs.declared.ids.TypeId.{TypeId}
 use Rattle.nomos_ir.specs.declared.ids.VarId.{VarId}
@@ -20,6 +20,7 @@ use Rattle.nomos_machine.specs.declared.object.Payload.{Payload}
 use Rattle.nomos_machine.specs.declared.object.Payload.TheVariants as payload
 use Rattle.nomos_machine.specs.declared.object.PotentialList.{PotentialList}
 use Rattle.nomos_machine.specs.declared.object.Process.{Process}
+use Rattle.nomos_parts.specs.declared.list_change.ListChange.{ListChange}
 use Rattle.nomos_parts.specs.declared.newborn.Newborn.{Newborn}
 
 -- another process stands at the number
@@ -50,6 +51,22 @@ with_lists lists p = record p { lists = lists }
 
 abbrev pub with_channels : List (VarId × ℕ) → Process → Process
 with_channels channels p = record p { channels = bindings_of channels }
+
+-- pairs in which a variable is bound no more, and pairs in which one is bound, if there is one
+abbrev pub unbound_if : {X : Type 0} → Option VarId → List (VarId × X) → List (VarId × X)
+unbound_if None pairs = pairs
+unbound_if (Some w) pairs = unbind w.0 pairs
+
+abbrev pub bound_if : {X : Type 0} → Option (VarId × X) → List (VarId × X) → List (VarId × X)
+bound_if None pairs = pairs
+bound_if (Some b) pairs = bind b.0 b.1 pairs
+
+-- a list is used up, then one is bound, and a value is, each if it is to be
+abbrev pub with_list_change : ListChange → Process → Process
+with_list_change c p = record p {
+  values = bound_if c.value p.values;
+  lists = bound_if c.bound (unbound_if c.used_up p.lists);
+}
 
 -- the process that is to come
 abbrev pub process_born : Newborn → Process

@@ -1,12 +1,12 @@
 //! What a declaration is given by a process.
-ghost use Rattle.std.specs.Prelude.{◌≡◌, Some, IfOk, option_copied};
+ghost use Rattle.std.specs.Prelude.{◌≡◌, Some, IfOk};
 ghost use Rattle.std.specs.Option.{option_map};
-ghost use Rattle.nomos_ir.specs.Bindings.{bound_to};
 ghost use Rattle.nomos_machine.specs.Given.{give_names, give_values, given};
 ghost use Rattle.nomos_machine.specs.State.{process_at};
 ghost use Rattle.nomos_machine.specs.declared.object.Process.{Process};
 ghost use Rattle.nomos_parts.specs.Gives.{given_in};
 
+use crate::lists::{copy_list, list_of};
 use crate::parts::Parts;
 use nomos_deeds::sight::Sight;
 use nomos_eval::evaluation::value_from;
@@ -24,28 +24,6 @@ pub(crate) struct Given {
     pub(crate) values: Vec<(VarId, Value)>,
     pub(crate) lists: Vec<(VarId, PotentialList)>,
     pub(crate) channels: Vec<(VarId, u32)>,
-}
-
-/// The list of a variable.
-pub(crate) fn list_of(lists: &[(VarId, PotentialList)], w: VarId) -> Option<&PotentialList>
-    ensures { option_copied result ≡ bound_to w.0 lists.now }
-{
-    for pair in lists {
-        if pair.0 == w {
-            return Some(&pair.1);
-        }
-    }
-    None
-}
-
-// A copy of a list.
-fn copy_list(list: &PotentialList) -> Result<PotentialList, AllocError>
-    ensures { IfOk result (λ made. made ≡ list.now) }
-{
-    Ok(PotentialList {
-        amount: list.amount,
-        items: list.items.copy()?,
-    })
 }
 
 // The names of a process's channels, one for each parameter that is one; none, where one is missing.

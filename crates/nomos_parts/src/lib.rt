@@ -8,6 +8,7 @@ mod calling;
 mod given;
 mod going;
 mod leaving;
+pub mod list_change;
 mod lists;
 mod messages;
 mod messaging;

@@ -3,6 +3,7 @@ ghost use Rattle.std.specs.Prelude.{◌≡◌, ◌==◌, ◌≤◌, ◌<◌, ◌
 ghost use Rattle.std.specs.List.{insert, position, prefix_len};
 ghost use Rattle.std.specs.Vec.{vec_len, vec_capacity};
 ghost use Rattle.nomos_ir.specs.Bindings.{bind, bindings_of, bound_to, unbind};
+ghost use Rattle.nomos_parts.specs.SmallChanges.{bound_if, unbound_if};
 
 use nomos_ir::ids::VarId;
 use std::alloc::{AllocError, Global};
@@ -60,8 +61,29 @@ pub fn unbind<X>(pairs: &mut Vec<(VarId, X)>, v: VarId) -> Option<X>
     Some(pair.1)
 }
 
-// Whether each pair has a lower variable than the next one, so that the pairs are a map as they stand.
-fn is_map<X>(pairs: &[(VarId, X)]) -> bool
+/// Binds a variable, if there is one.
+pub fn bind_if<X: Drop>(pairs: &mut Vec<(VarId, X)>, bound: Option<(VarId, X)>)
+    requires { vec_len pairs.old < vec_capacity pairs.old }
+    ensures { pairs.new.items ≡ bound_if bound pairs.old.items }
+{
+    if let Some((v, x)) = bound {
+        bind(pairs, v, x);
+    }
+}
+
+/// Binds a variable no more, if there is one.
+pub fn unbind_if<X: Drop>(pairs: &mut Vec<(VarId, X)>, unbound: Option<VarId>)
+    ensures items { pairs.new.items ≡ unbound_if unbound pairs.old.items }
+    ensures capacity { vec_capacity pairs.new ≡ vec_capacity pairs.old }
+    ensures len { vec_len pairs.new ≤ vec_len pairs.old }
+{
+    if let Some(v) = unbound {
+        let _before = unbind(pairs, v);
+    }
+}
+
+/// Whether each pair has a lower variable than the next one, so that the pairs are a map as they stand.
+pub fn is_map<X>(pairs: &[(VarId, X)]) -> bool
     ensures { IsTrue result → bindings_of pairs.now ≡ pairs.now }
 {
     let mut at = pairs.len();

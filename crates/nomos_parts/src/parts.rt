@@ -9,8 +9,9 @@ ghost use Rattle.nomos_machine.specs.State.{State, process_at};
 ghost use Rattle.nomos_machine.specs.declared.object.Message.{Message as Sent};
 ghost use Rattle.nomos_machine.specs.declared.object.Object.TheVariants as object;
 ghost use Rattle.nomos_machine.specs.declared.object.Process.{Process};
-ghost use Rattle.nomos_parts.specs.SmallChanges.{Becomes, BringsNoValue, process_born, redirected, value_brought, with_channels, with_fields, with_lists, with_name, with_object, with_values, without_object};
+ghost use Rattle.nomos_parts.specs.SmallChanges.{Becomes, BringsNoValue, process_born, redirected, value_brought, with_channels, with_fields, with_list_change, with_lists, with_name, with_object, with_values, without_object};
 
+use crate::list_change::ListChange;
 use crate::newborn::Newborn;
 use nomos_deeds::sight::{SeenMessage, SeenProcess, Sight};
 use nomos_ir::ids::{TypeId, VarId};
@@ -19,7 +20,8 @@ use nomos_machine::object::{Message, PotentialList};
 use std::alloc::{AllocError, Global};
 
 /// What a state is changed by, a small change at a time. Room is counted in small changes: who makes some makes room
-/// first, by [`Parts::make_room`], and each takes one of it at most. Those that answer nothing take no memory then.
+/// first, by [`Parts::make_room`], and each takes one of it at most, or two where it says so. Those that answer nothing
+/// take no memory then.
 /// Want of memory leaves the state as it was. A change of a process says nothing where no process has the number.
 pub trait Parts: Sight {
     /// For how many small changes there is room.
@@ -114,6 +116,19 @@ pub trait Parts: Sight {
         requires room { 0 < room self.old }
         ensures state { Becomes (Self.state self.old) pid (with_lists lists.items) (Self.state self.new) }
         ensures room { room self.old ≤ room self.new + 1 }
+        ensures marked { marked self.new ≡ marked self.old };
+
+    /// One list of the process is used up, one is bound, and a value is, each if it is to be. It takes the room of two.
+    fn change_lists(
+        &mut self,
+        alloc: Global,
+        pid: u32,
+        change: ListChange,
+    ) -> Result<(), AllocError>
+        requires room { 2 ≤ room self.old }
+        ensures ok { OnOk result (Becomes (Self.state self.old) pid (with_list_change change) (Self.state self.new)) }
+        ensures err { OnErr result (Self.state self.new ≡ Self.state self.old) }
+        ensures room { room self.old ≤ room self.new + 2 }
         ensures marked { marked self.new ≡ marked self.old };
 
     /// A message comes, which has the next number. It takes no memory where it brings no value.

@@ -1,7 +1,7 @@
 //! A process of a plain state changes: its plain fields, its channels, its values, its lists.
 ghost use Rattle.std.specs.Prelude.{◌≡◌, ◌≤◌, ◌<◌, ◌+◌, OnErr, OnOk};
 ghost use Rattle.nomos_machine.specs.Revised.{with_channel, with_value, without_channel};
-ghost use Rattle.nomos_parts.specs.SmallChanges.{Becomes, with_channels, with_fields, with_lists, with_values};
+ghost use Rattle.nomos_parts.specs.SmallChanges.{Becomes, with_channels, with_fields, with_list_change, with_lists, with_values};
 ghost use Rattle.nomos_plain.specs.Parts.{IsSound, state_of};
 
 use crate::parts::PlainParts;
@@ -9,6 +9,7 @@ use nomos_deeds::sight::SeenProcess;
 use nomos_ir::ids::VarId;
 use nomos_ir::value::Value;
 use nomos_machine::object::PotentialList;
+use nomos_parts::list_change::ListChange;
 use nomos_parts::pairs::bindings_of;
 use std::alloc::{AllocError, Global};
 
@@ -108,6 +109,23 @@ impl PlainParts {
         };
         process.values = values;
         self.put(process);
+    }
+
+    /// One list of the process is used up, one is bound, and a value is, each if it is to be. Want of memory leaves the
+    /// state as it was.
+    pub(crate) fn change_lists(&mut self, pid: u32, change: ListChange) -> Result<(), AllocError>
+        requires { IsSound self.old }
+        ensures ok { OnOk result (Becomes (state_of self.old) pid (with_list_change change) (state_of self.new)) }
+        ensures err { OnErr result (state_of self.new ≡ state_of self.old) }
+        ensures sound { IsSound self.new }
+        ensures room { self.new.room ≡ self.old.room }
+    {
+        let Some(mut process) = self.take(pid) else {
+            return Ok(());
+        };
+        let done = process.change_lists(change);
+        self.put(process);
+        done
     }
 
     /// The process has these lists.

@@ -2,7 +2,7 @@
 ghost use Rattle.std.specs.Prelude.{◌≡◌, ◌≤◌, ◌<◌, ◌+◌, OnErr, OnOk};
 ghost use Rattle.std.specs.Vec.{vec_len, vec_capacity};
 ghost use Rattle.nomos_machine.specs.Revised.{with_channel, with_value, without_channel};
-ghost use Rattle.nomos_parts.specs.SmallChanges.{with_fields};
+ghost use Rattle.nomos_parts.specs.SmallChanges.{with_fields, with_list_change};
 ghost use Rattle.nomos_plain.specs.Parts.{process_in};
 
 use nomos_deeds::sight::SeenProcess;
@@ -10,7 +10,8 @@ use nomos_ir::ids::{CodeId, VarId};
 use nomos_ir::mode::Mode;
 use nomos_ir::value::Value;
 use nomos_machine::object::{Message, PotentialList};
-use nomos_parts::pairs::{bind, unbind};
+use nomos_parts::list_change::ListChange;
+use nomos_parts::pairs::{bind, bind_if, unbind, unbind_if};
 use std::alloc::AllocError;
 
 /// A process. Its purse counts Dths.
@@ -80,6 +81,21 @@ impl PlainProcess {
     {
         self.values.reserve(1)?;
         bind(&mut self.values, v, x);
+        Ok(())
+    }
+
+    /// One list is used up, one is bound, and a value is, each if it is to be. Want of memory leaves it as it was.
+    pub(crate) fn change_lists(&mut self, change: ListChange) -> Result<(), AllocError>
+        ensures ok { OnOk result (process_in self.new ≡ with_list_change change (process_in self.old)) }
+        ensures err { OnErr result (process_in self.new ≡ process_in self.old) }
+        ensures channels { self.new.channels ≡ self.old.channels }
+        ensures pid { self.new.pid ≡ self.old.pid }
+    {
+        self.values.reserve(1)?;
+        self.lists.reserve(1)?;
+        unbind_if(&mut self.lists, change.used_up);
+        bind_if(&mut self.lists, change.bound);
+        bind_if(&mut self.values, change.value);
         Ok(())
     }
 }

@@ -8,6 +8,7 @@ use nomos_deeds::sight::{SeenMessage, SeenProcess};
 use nomos_ir::ids::{TypeId, VarId};
 use nomos_ir::value::Value;
 use nomos_machine::object::{Message, PotentialList};
+use nomos_parts::list_change::ListChange;
 use nomos_parts::newborn::Newborn;
 use nomos_parts::parts::Parts;
 use std::alloc::{AllocError, Global};
@@ -83,6 +84,15 @@ impl Parts for PlainState {
 
     fn put_lists(&mut self, pid: u32, lists: Vec<(VarId, PotentialList)>) {
         self.parts.put_lists(pid, lists);
+    }
+
+    fn change_lists(
+        &mut self,
+        _alloc: Global,
+        pid: u32,
+        change: ListChange,
+    ) -> Result<(), AllocError> {
+        self.parts.change_lists(pid, change)
     }
 
     fn come_message(&mut self, _alloc: Global, message: Message) -> Result<(), AllocError> {

@@ -1,6 +1,6 @@
 use Rattle.std.proofs.Common.{◌==◌, sym, ap, ◌∙◌}
 use Rattle.std.specs.List.{position}
-use Rattle.nomos_parts.proofs.PairLemmas.{unbind-nowhere, unbind-there}
+use Rattle.nomos_parts.proofs.UnbindLaws.{unbind-nowhere, unbind-there}
 use Rattle.nomos_parts.proofs.pairs.unbind.Goals as goal
 
 pub returns-in_err-at-clause-items : goal.returns-in_err-at-clause-items

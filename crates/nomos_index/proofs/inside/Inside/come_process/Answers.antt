@@ -1,13 +1,15 @@
-use Rattle.std.proofs.Common.{◌≤◌, ◌∙◌, ℕ, List, IsSome, length, sym, ap, subst, arith}
-use Rattle.nomos_ir.specs.Bindings.{bound_to}
+use Rattle.std.proofs.Common.{◌≡◌, ◌≤◌, ◌∙◌, ℕ, List, IsSome, length, sym, ap, subst, arith}
+use Rattle.nomos_ir.specs.Bindings.{bindings_of, bound_to}
 use Rattle.nomos_ir.specs.declared.ids.VarId.{VarId}
 use Rattle.nomos_machine.specs.declared.object.Object.TheVariants as object
 use Rattle.nomos_parts.specs.SmallChanges.{process_born, with_object}
 use Rattle.nomos_slots.specs.Cells.{name_in}
 use Rattle.nomos_index.specs.Coming.{name_with}
 use Rattle.nomos_index.specs.Indexed.{Indexed}
+use Rattle.nomos_index.specs.Objects.{AscendsIf, ValueRow}
 use Rattle.nomos_index.proofs.AgainLemmas.{moved-marks, moved-state, on_any_err}
 use Rattle.nomos_index.proofs.BirthLemmas.{born-indexed, born-marks, born-state}
+use Rattle.nomos_index.proofs.RowLemmas.{map-ascends}
 use Rattle.nomos_index.proofs.inside.Inside.come_process.Goals as goal
 
 pub returns-in_err-reserve_names-clause-err : goal.returns-in_err-reserve_names-clause-err
@@ -34,12 +36,14 @@ invariant_of-self-2 c =
     omega (arith, c.in_ok-reserve_names.ensures.ok, c.bind_pairs.ensures.room, c.len-count.ensures, ap length c.deref.ensures.value) in
     let spans = λ (w : ℕ) (some : IsSome (bound_to w born.channels.items)).
     c.span_of.ensures w
-    (subst (λ (ps : List (VarId × ℕ)). IsSome (bound_to w ps)) (sym c.deref-2.ensures.value) some) in
-    born-indexed s c.self.invariant born c.of-kept.result c.span_of.result c.push.new.self c.push-2.new.self
+    (subst (λ (ps : List (VarId × ℕ)). IsSome (bound_to w ps)) (sym c.deref-3.ensures.value) some) in
+    let order : AscendsIf c.is_map-ascends.result born.values.items = λ known. map-ascends born.values.items
+    (subst (λ (ps : ValueRow). bindings_of ps ≡ ps) c.deref-2.ensures.value (c.is_map-ascends.ensures known)) in
+    born-indexed s c.self.invariant born c.of-kept.result c.span_of.result c.is_map-ascends.result c.push.new.self c.push-2.new.self
     c.push-3.new.self
     c.reserve_names.new.channels c.bind_pairs.new.channels c.reserve_names.ensures.names come c.reserve_names.ensures.marked
     c.bind_pairs.ensures.marked c.push.ensures.marked c.push-2.ensures.marked c.push-3.ensures.marked next c.of-kept.ensures
-    c.push.ensures.now c.push-2.ensures.now c.push-3.ensures.now spans
+    c.push.ensures.now c.push-2.ensures.now c.push-3.ensures.now spans order
     (record {
       objects = omega (arith, c.push.ensures.room, c.self.invariant.has_room.objects);
       values = omega (arith, c.push-2.ensures.room, c.self.invariant.has_room.values);
@@ -59,12 +63,14 @@ returns-clause-ok c =
     let next = c.requires.number ∙ sym (ap (λ (i : Indexed). i.state.next_object) c.self.view_is) in
     let spans = λ (w : ℕ) (some : IsSome (bound_to w born.channels.items)).
     c.span_of.ensures w
-    (subst (λ (ps : List (VarId × ℕ)). IsSome (bound_to w ps)) (sym c.deref-2.ensures.value) some) in
-    born-state s c.self.invariant born c.of-kept.result c.span_of.result c.push.new.self c.push-2.new.self
+    (subst (λ (ps : List (VarId × ℕ)). IsSome (bound_to w ps)) (sym c.deref-3.ensures.value) some) in
+    let order : AscendsIf c.is_map-ascends.result born.values.items = λ known. map-ascends born.values.items
+    (subst (λ (ps : ValueRow). bindings_of ps ≡ ps) c.deref-2.ensures.value (c.is_map-ascends.ensures known)) in
+    born-state s c.self.invariant born c.of-kept.result c.span_of.result c.is_map-ascends.result c.push.new.self c.push-2.new.self
     c.push-3.new.self
     c.reserve_names.new.channels c.bind_pairs.new.channels c.reserve_names.ensures.names come c.reserve_names.ensures.marked
     c.bind_pairs.ensures.marked c.push.ensures.marked c.push-2.ensures.marked c.push-3.ensures.marked next c.of-kept.ensures
-    c.push.ensures.now c.push-2.ensures.now c.push-3.ensures.now spans
+    c.push.ensures.now c.push-2.ensures.now c.push-3.ensures.now spans order
     ∙ ap (λ (i : Indexed). with_object (object.Process (process_born born)) i.state) c.self.view_is
 
 pub returns-clause-marked : goal.returns-clause-marked
@@ -78,10 +84,12 @@ returns-clause-marked c =
     let next = c.requires.number ∙ sym (ap (λ (i : Indexed). i.state.next_object) c.self.view_is) in
     let spans = λ (w : ℕ) (some : IsSome (bound_to w born.channels.items)).
     c.span_of.ensures w
-    (subst (λ (ps : List (VarId × ℕ)). IsSome (bound_to w ps)) (sym c.deref-2.ensures.value) some) in
-    born-marks s c.self.invariant born c.of-kept.result c.span_of.result c.push.new.self c.push-2.new.self
+    (subst (λ (ps : List (VarId × ℕ)). IsSome (bound_to w ps)) (sym c.deref-3.ensures.value) some) in
+    let order : AscendsIf c.is_map-ascends.result born.values.items = λ known. map-ascends born.values.items
+    (subst (λ (ps : ValueRow). bindings_of ps ≡ ps) c.deref-2.ensures.value (c.is_map-ascends.ensures known)) in
+    born-marks s c.self.invariant born c.of-kept.result c.span_of.result c.is_map-ascends.result c.push.new.self c.push-2.new.self
     c.push-3.new.self
     c.reserve_names.new.channels c.bind_pairs.new.channels c.reserve_names.ensures.names come c.reserve_names.ensures.marked
     c.bind_pairs.ensures.marked c.push.ensures.marked c.push-2.ensures.marked c.push-3.ensures.marked next c.of-kept.ensures
-    c.push.ensures.now c.push-2.ensures.now c.push-3.ensures.now spans
+    c.push.ensures.now c.push-2.ensures.now c.push-3.ensures.now spans order
     ∙ ap (λ (i : Indexed). i.marked) c.self.view_is

@@ -1,15 +1,26 @@
-use Rattle.std.proofs.Common.{◌∙◌, map, sym, ap, subst}
+use Rattle.std.proofs.Common.{◌∙◌, map, sym, ap, subst, arith}
 use Rattle.nomos_index.specs.Indexed.{Indexed}
 use Rattle.nomos_index.specs.Redirected.{redirected_at}
 use Rattle.nomos_index.specs.Telling.{DoesAt}
 use Rattle.nomos_machine.specs.Objects.{times}
 use Rattle.nomos_machine.specs.Revised.{renamed}
 use Rattle.nomos_machine.specs.State.{State}
+use Rattle.nomos_machine.proofs.NameLaws.{times-one}
+use Rattle.nomos_machine.proofs.PutLaws.{object_at-found}
 use Rattle.nomos_tally.specs.Tallying.{names_of}
 use Rattle.nomos_tally.specs.declared.tally.Doing.TheVariants as doing
 use Rattle.nomos_named.proofs.KeepLemmas.{marked-kept}
 use Rattle.nomos_named.proofs.RedirectLemmas.{after_redirect, nobody-redirected, one-redirected, redirected-tallied}
 use Rattle.nomos_named.proofs.tallied.Tallied.redirect.Goals as goal
+
+pub redirect_once-requires : goal.redirect_once-requires
+redirect_once-requires c o there =
+    let s = c.self.inside.inside.state in
+    let old = c.args.old in
+    let (one, does) = c.in-One.ensures in
+    let once = ap (λ (i : Indexed). times (names_of doing.Uses) i.state.objects old) c.self.view_is ∙ one in
+    let (numbered, inside) = object_at-found c.in-One.by.object o s.objects there in
+    omega (arith, times-one (names_of doing.Uses) old s.objects o inside, once)
 
 pub invariant_of-self-in-One : goal.invariant_of-self-in-One
 invariant_of-self-in-One c =
@@ -23,7 +34,7 @@ invariant_of-self-in-One c =
     let does_here = subst (λ (i : Indexed). DoesAt (names_of doing.Uses) i.state.objects number old) (sym c.self.view_is) does
     in
     let is = c.rename_outside-in-One.ensures.state
-    ∙ ap (λ (u : State). record u { outside = map (renamed old new) u.outside }) c.redirect_object.ensures.state
+    ∙ ap (λ (u : State). record u { outside = map (renamed old new) u.outside }) c.redirect_once.ensures.state
     in
     record {
       now =
@@ -31,7 +42,7 @@ invariant_of-self-in-One c =
           c.rename_outside-in-One.new.self.state c.self.invariant.now c.exchange.ensures is;
       marked =
           marked-kept t.was_exact t.was_lost _ _ _ _ c.self.invariant.marked c.exchange.ensures.marked
-          (c.rename_outside-in-One.ensures.marked ∙ c.redirect_object.ensures.marked);
+          (c.rename_outside-in-One.ensures.marked ∙ c.redirect_once.ensures.marked);
     }
 
 pub returns-in-Nobody-clause-state : goal.returns-in-Nobody-clause-state
@@ -51,6 +62,6 @@ returns-in-One-clause-state c =
     let number = c.in-One.by.object in
     let (one, does) = c.in-One.ensures in
     c.rename_outside-in-One.ensures.state
-    ∙ ap (λ (u : State). record u { outside = map (renamed old new) u.outside }) c.redirect_object.ensures.state
+    ∙ ap (λ (u : State). record u { outside = map (renamed old new) u.outside }) c.redirect_once.ensures.state
     ∙ ap (λ (i : Indexed). after_redirect old new i.state (redirected_at number old new i.state.objects)) c.self.view_is
     ∙ ap (after_redirect old new s) (one-redirected old new s number one does)
