@@ -112,15 +112,18 @@ alone-behind a task snapshot script due before after out new status is written s
       script = script_unread;
       refused = λ unaccepted. elim unaccepted [
         | inl one ↦
-            absurd (never 1 (λ z. omega (arith, z)) (λ z. omega (arith, z)) (λ z. omega (arith, z)) (λ z. omega (arith, z))
-            (λ z. omega (arith, z)) (λ z. omega (arith, z)) one)
+            absurd
+            (never 1 (λ z. omega (arith, z)) (λ z. omega (arith, z)) (λ z. omega (arith, z))
+            (λ z. omega (arith, z)) (λ z. omega (arith, z)) (λ z. omega (arith, z)) one)
         | inr eight ↦
-            absurd (never 8 (λ z. omega (arith, z)) (λ z. omega (arith, z)) (λ z. omega (arith, z)) (λ z. omega (arith, z))
-            (λ z. omega (arith, z)) (λ z. omega (arith, z)) eight)
+            absurd
+            (never 8 (λ z. omega (arith, z)) (λ z. omega (arith, z)) (λ z. omega (arith, z))
+            (λ z. omega (arith, z)) (λ z. omega (arith, z)) (λ z. omega (arith, z)) eight)
       ];
       out = λ seven.
-          absurd (never 7 (λ z. omega (arith, z)) (λ z. omega (arith, z)) (λ z. omega (arith, z)) (λ z. omega (arith, z))
-          (λ z. omega (arith, z)) (λ z. omega (arith, z)) seven);
+          absurd
+          (never 7 (λ z. omega (arith, z)) (λ z. omega (arith, z)) (λ z. omega (arith, z))
+          (λ z. omega (arith, z)) (λ z. omega (arith, z)) (λ z. omega (arith, z)) seven);
       next = λ unwritten. kept unwritten
           (due-view a _ _ task due.status due.out.items (kept_text due) is.is);
     }
@@ -128,7 +131,8 @@ alone-behind a task snapshot script due before after out new status is written s
     never : (n : ℕ) → n ≢ 0 → n ≢ 3 → n ≢ 2 → n ≢ 5 → n ≢ 11 → n ≢ 6 → status ≢ n
     never n zero three two five eleven six same = elim (written-status written) [
       | inl kept ↦
-          due-not a _ _ task due.status due.out.items (kept_text due) is.is n zero three two five eleven (sym kept ∙ same)
+          due-not a _ _ task due.status due.out.items (kept_text due) is.is n zero three two five eleven
+          (sym kept ∙ same)
       | inr failed ↦ six (sym same ∙ failed)
     ]
 

@@ -23,7 +23,8 @@ use Rattle.nomos_carry.proofs.TaskLaws.{one-task}
 
 carried-right : (text : List ℕ) (a : Acceptance) → IsAcceptedAs text a → IsAccepted a → (from : Option (List ℕ))
     (snapshot script : Input) (status : ℕ) (out : List ℕ) (next : Option (List ℕ))
-    → (v : CarriedView a (snapshot_if from snapshot) script status out next) → GoesRightTo a v.has.first v.passages v.last
+    → (v : CarriedView a (snapshot_if from snapshot) script status out next)
+    → GoesRightTo a v.has.first v.passages v.last
 carried-right text a is accepted (Some word) snapshot script status out next v =
     loaded-right text is accepted script.text v.has.items v.has.reads v.journal v.passages v.last v.has.stands
     snapshot.text v.has.first v.has.begins v.has.run
@@ -60,8 +61,8 @@ module _ (c : CarryCall) (t : CarryTexts) where
     last = v.last;
     carried = v.has;
     right =
-        carried-right t.contract a is accepted from (carry_inputs c t).snapshot (carry_inputs c t).script c.status out next
-        v;
+        carried-right t.contract a is accepted from (carry_inputs c t).snapshot (carry_inputs c t).script c.status out
+        next v;
     status = v.status_is;
     printed = printed-text out _ v.out_is printed;
     saved = saved-text next _ v.next_is saved;

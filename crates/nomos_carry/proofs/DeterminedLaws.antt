@@ -57,7 +57,8 @@ module _ (c d : CarryCall) (t : CarryTexts) where
   words-alike words status out next other also later (call.usage none) (call.usage none2) = inl (refl, refl, refl)
   words-alike words status out next other also later (call.usage none) (call.unaccepted task n o asks is) =
       absurd (none task asks)
-  words-alike words status out next other also later (call.usage none) (call.accepted task a n o k asks is accepted due) =
+  words-alike words status out next other also later (call.usage none)
+      (call.accepted task a n o k asks is accepted due) =
       absurd (none task asks)
   words-alike words status out next other also later (call.unaccepted task n o asks is) (call.usage none) =
       absurd (none task asks)
@@ -69,7 +70,8 @@ module _ (c d : CarryCall) (t : CarryTexts) where
   words-alike words status out next other also later (call.unaccepted task n o asks is)
       (call.accepted task2 a m p k asks2 was accepted due) =
       inr (inl (accepted-fault (contract_word task) (carry_inputs c t).contract a n o was is))
-  words-alike words status out next other also later (call.accepted task a n o k asks is accepted due) (call.usage none) =
+  words-alike words status out next other also later (call.accepted task a n o k asks is accepted due)
+      (call.usage none) =
       absurd (none task asks)
   words-alike words status out next other also later (call.accepted task a n o k asks is accepted due)
       (call.unaccepted task2 m p asks2 was) =

@@ -95,7 +95,8 @@ missed-not status n (inl is) two five eleven same = two (sym same ∙ is)
 missed-not status n (inr (inl is)) two five eleven same = five (sym same ∙ is)
 missed-not status n (inr (inr is)) two five eleven same = eleven (sym same ∙ is)
 
-no_ledger-missed : (a : Acceptance) (x : Input) (status : ℕ) (out : List ℕ) → IsNoLedger a x status out → IsMissed status
+no_ledger-missed : (a : Acceptance) (x : Input) (status : ℕ) (out : List ℕ) → IsNoLedger a x status out
+    → IsMissed status
 no_ledger-missed a x status out (resumes.fault rose) = inr (inl refl)
 no_ledger-missed a x status out (resumes.refused why refused) = inr (inr refl)
 
@@ -151,7 +152,8 @@ pub record RenumberedView (a : Acceptance) (snapshot : Input) (status : ℕ) (ne
   pub next_is : next ≡ Some (snapshot_text a after)
 
 pub renumber-view : {a : Acceptance} {snapshot : Input} {status : ℕ} {out : List ℕ} {next : Option (List ℕ)}
-    → IsRenumberDue a snapshot status out next → (IsMissed status × (next ≡ None)) ⊎ RenumberedView a snapshot status next
+    → IsRenumberDue a snapshot status out next
+    → (IsMissed status × (next ≡ None)) ⊎ RenumberedView a snapshot status next
 renumber-view {a} {snapshot} (renumbering.no_ledger status out none) =
     inl (no_ledger-missed a snapshot status out none, refl)
 renumber-view (renumbering.not_admitted l m why loads is bad) = inl (inr (inr refl), refl)
@@ -176,7 +178,8 @@ pub record NumbersView (a : Acceptance) (snapshot : Input) (status : ℕ) (out :
 
 pub numbers-view : {a : Acceptance} {snapshot : Input} {status : ℕ} {out : List ℕ} → IsNumbersDue a snapshot status out
     → IsMissed status ⊎ NumbersView a snapshot status out
-numbers-view {a} {snapshot} (carrying.numbers_unloaded status out none) = inl (no_ledger-missed a snapshot status out none)
+numbers-view {a} {snapshot} (carrying.numbers_unloaded status out none) =
+    inl (no_ledger-missed a snapshot status out none)
 numbers-view (carrying.numbers_told l out loads tells) =
     inr (record { ledger = l; loads = loads; tells = tells; status_is = refl })
 

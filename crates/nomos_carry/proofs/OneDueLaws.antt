@@ -74,7 +74,8 @@ pub no_ledger-one : {a : Acceptance} → IsAccepted a → (x y : Input) → x.te
     (other : ℕ) (also : List ℕ) → IsNoLedger a x status out → IsNoLedger a y other also
     → OneDue status out None other also None
 no_ledger-one accepted x y same status out other also (resumes.fault rose) two = inr (inl refl)
-no_ledger-one accepted x y same status out other also (resumes.refused why refused) (resumes.fault rose) = inr (inr refl)
+no_ledger-one accepted x y same status out other also (resumes.refused why refused) (resumes.fault rose) =
+    inr (inr refl)
 no_ledger-one {a} accepted x y same status out other also (resumes.refused why refused) (resumes.refused cause was) =
     let both : Err why ≡ Err cause =
     loads-one accepted (subst (λ (t : List ℕ). Loads a t (Err why)) same refused) was in
@@ -168,7 +169,8 @@ carried-one : {a : Acceptance} → IsAccepted a → (x y : Option Input) (s u : 
     → (journal other : Journal) (ps qs : List Passage) (last m : LedgerState) → HasCarried a x s journal ps last
     → HasCarried a y u other qs m → (journal ≡ other) × (ps ≡ qs) × (last ≡ m)
 carried-one {a} accepted x y s u alike same journal other ps qs last m one two =
-    let firsts : two.first ≡ one.first = sym (begins-one accepted x y alike one.first two.first one.begins two.begins) in
+    let firsts : two.first ≡ one.first =
+    sym (begins-one accepted x y alike one.first two.first one.begins two.begins) in
     let reads : ReadsAs u.text one.items = subst (λ (t : List ℕ). ReadsAs t one.items) same one.reads in
     let items : two.items ≡ one.items = reads_once u.text two.items one.items two.reads reads in
     let run : HasRunFrom a one.first one.items usual_orders other qs m =

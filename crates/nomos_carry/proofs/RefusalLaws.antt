@@ -77,7 +77,8 @@ refusal-one text file word x y here there status out other also (outcome.unsolve
     let one = one-answer y.text in
     absurd ((one.caused_goes_on why stop was.cause).0
     (subst (λ (t : List ℕ). HasStopped t stop) (here ∙ sym there) is))
-refusal-one text file word x y here there status out other also (outcome.unsolved stop is) (outcome.unsolved stops was) =
+refusal-one text file word x y here there status out other also (outcome.unsolved stop is)
+    (outcome.unsolved stops was) =
     inl (
       refl,
       ap unsolved_line (stop-one x.text stop stops is

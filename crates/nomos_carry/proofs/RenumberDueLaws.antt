@@ -72,8 +72,8 @@ refused-one why cause (loading.not_quiet units pid sound worth ready) (loading.a
 refused-one why cause (loading.admitted units sound worth quiet) other is was = cc
 
 -- a ledger that stands is admitted
-stands-admitted : {a : Acceptance} {l : LedgerState} → StandsFor a l → {x : Result LedgerState LoadError} (why : LoadError)
-    → Admits a l x → x ≡ Err why → ⊥
+stands-admitted : {a : Acceptance} {l : LedgerState} → StandsFor a l → {x : Result LedgerState LoadError}
+    (why : LoadError) → Admits a l x → x ≡ Err why → ⊥
 stands-admitted {a} {l} stands why (loading.not_typed unsound) is =
     unsound (record {
       typed = stands.settled.typed;
@@ -115,13 +115,14 @@ module _ {a : Acceptance} (accepted : IsAccepted a) (x y : Input) (same : x.text
   saved-same : (m n : LedgerState) → m ≡ n → (why cause : SaveError) → Saves a m (Err why) → Saves a n (Err cause)
       → why ≡ cause
   saved-same m n ledgers why cause one two =
-      let both : Err why ≡ Err cause = saves-one (subst (λ (e : LedgerState). Saves a e (Err why)) ledgers one) two in cc
+      let both : Err why ≡ Err cause =
+      saves-one (subst (λ (e : LedgerState). Saves a e (Err why)) ledgers one) two in cc
 
   stands-same : (m n : LedgerState) → m ≡ n → (why : LoadError) → StandsFor a m → Admits a n (Err why) → ⊥
   stands-same m n ledgers why stands two = stands-admitted (subst (StandsFor a) ledgers stands) why two refl
 
-  keeps-same : (m n : LedgerState) → m ≡ n → (why : SaveError) → Loads a (snapshot_text a m) (Ok m) → Saves a n (Err why)
-      → ⊥
+  keeps-same : (m n : LedgerState) → m ≡ n → (why : SaveError) → Loads a (snapshot_text a m) (Ok m)
+      → Saves a n (Err why) → ⊥
   keeps-same m n ledgers why loads two =
       loaded-saved accepted (subst (λ (e : LedgerState). Loads a (snapshot_text a e) (Ok e)) ledgers loads) why two refl
 

@@ -46,8 +46,8 @@ CarryFails c = (c.status ≡ 5) ⊎ ((c.status ≡ 6) ⊎ (c.status ≡ 7))
 
 -- ---- the ledger that is carried on
 
--- What a call did that carried a ledger on: the contract reads as a typed program; the run of the script is legal and
--- goes right, from the ledger of the snapshot to the last one; the report tells it; and what is saved is the last
+-- What a call did that carried a ledger on. The contract reads as a typed program. The run of the script is legal and
+-- goes right, from the ledger of the snapshot to the last one, and the report tells it. What is saved is the last
 -- ledger's text, and loaded as that ledger.
 pub record CarriesOn (c : CarryCall) (t : CarryTexts) (snapshot : Option (List ℕ)) : Type 0 where
   pub a : Acceptance
@@ -108,7 +108,7 @@ pub record CarryClaims (c : CarryCall) : Type 0 where
   pub tells : AsksForNumbers c → c.status ≡ 0 → TellsNext c texts
   -- a next snapshot is written with 0 and 3 alone, and with 6 a front of it, if anything
   pub leaves_new : ¬ (IsDone c.status) → c.status ≢ 6 → c.new.after ≡ c.new.before
-  -- Determined: each other call of these words on these texts ends alike, unless reading, writing or memory fails in one
-  -- of the two. So from one contract, one snapshot and one script there is one report and one next snapshot.
+  -- Determined: each other call of these words on these texts ends alike, unless reading, writing or memory fails in
+  -- one of the two. So from one contract, one snapshot and one script there is one report and one next snapshot.
   pub determined : (d : CarryCall) → CarryEndsOn d texts → d.words ≡ c.words
       → EndsAlike c d ⊎ (CarryFails c ⊎ CarryFails d)

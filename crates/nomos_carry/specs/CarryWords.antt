@@ -5,7 +5,7 @@ use Rattle.nomos_words.specs.Options.{IsFileWord}
 
 -- what is to be done; each word names a file
 pub data CarryTask : Type 0 where
-  -- the script is run on the contract, from the ledger of the snapshot, or from the empty one, and the last ledger saved
+  -- the script is run on the contract, from the ledger of the snapshot or the empty one, and the last ledger is saved
   carry : (file : List ℕ) (snapshot : Option (List ℕ)) (script new : List ℕ) → CarryTask
   -- the ledger of the snapshot is renumbered, and saved
   renumber : (file snapshot new : List ℕ) → CarryTask

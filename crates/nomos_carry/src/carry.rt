@@ -11,7 +11,7 @@ ghost use Rattle.nomos_carry.specs.CarryClaims.{CarryClaims};
 ghost use Rattle.nomos_carry.specs.CarryWords.{AsksToCarry, script_file, snapshot_file};
 ghost use Rattle.nomos_carry.specs.mirror.Errands.{AloneFor, Behind, Ends, IsDueBehind, IsDueOn, IsJudgedDue, IsRefusalDue, carry_task};
 
-use crate::words::{Errand, errand_of};
+use crate::errands::{Errand, errand_of};
 use nomos_accept::accepting::accept;
 use nomos_accept::refusal::AcceptError;
 use nomos_base::{ReadError, Sink, Source, SureSource, read_all, write_all};

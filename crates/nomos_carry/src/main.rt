@@ -2,7 +2,7 @@
 #![tactic(auto)]
 
 mod carry;
-mod words;
+mod errands;
 
 ghost use Rattle.std.specs.Prelude.{map, string_bytes};
 ghost use Rattle.nomos_due.specs.Outside.{sink_state, source_state};
@@ -11,7 +11,7 @@ ghost use Rattle.nomos_carry.specs.CarryClaims.{CarryClaims};
 ghost use Rattle.nomos_carry.specs.CarryWords.{Names, contract_file, new_file, script_file, snapshot_file};
 
 use crate::carry::{Edges, carry};
-use crate::words::file_words;
+use crate::errands::file_words;
 use nomos_base::{Sink, Source};
 use nomos_files::{FileSource, OutputSink, OverFile};
 use std::alloc::{AllocError, AllocGlobal, Global};

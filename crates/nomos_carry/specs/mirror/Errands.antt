@@ -14,8 +14,8 @@ use Rattle.nomos_carry.specs.Alone.{IsUnacceptedStatus}
 use Rattle.nomos_carry.specs.CarryCall.{CarryTexts, IsCallDue, IsDueOnAccepted}
 use Rattle.nomos_carry.specs.CarryWords.{CarryTask, carry, contract_word, new_file, numbers, renumber, script_file, snapshot_file}
 use Rattle.nomos_carry.specs.declared.carry.Edges.{Edges}
-use Rattle.nomos_carry.specs.declared.words.Errand.{Errand}
-use Rattle.nomos_carry.specs.declared.words.Errand.TheVariants as errand
+use Rattle.nomos_carry.specs.declared.errands.Errand.{Errand}
+use Rattle.nomos_carry.specs.declared.errands.Errand.TheVariants as errand
 
 abbrev pub carry_task : Errand → CarryTask
 carry_task (errand.Carry file snapshot script new) =

@@ -7,11 +7,13 @@ use Rattle.nomos_carry.specs.mirror.Errands.{IsDueBehind}
 use Rattle.nomos_carry.proofs.CallLemmas.{begin-behind, if_some-map, numbers-behind, renumber-behind}
 use Rattle.nomos_carry.proofs.carry.accepted_due.Goals as goal
 
-pub returns-in-Carry-default-None-default-default-clause-due : goal.returns-in-Carry-default-None-default-default-clause-due
+pub returns-in-Carry-default-None-default-default-clause-due :
+    goal.returns-in-Carry-default-None-default-default-clause-due
 returns-in-Carry-default-None-default-default-clause-due g c =
     let a = c.args.accepted.now in
     let arm = c.in-Carry-default-None-default-default in
-    let snapshot : SourceState = source_state (g.S.Source.left c.args.snapshot.now) (g.S.Source.faults c.args.snapshot.now)
+    let snapshot : SourceState =
+    source_state (g.S.Source.left c.args.snapshot.now) (g.S.Source.faults c.args.snapshot.now)
     (g.S.Source.faults c.args.snapshot.now) in
     let script : SourceState = source_state (g.S.Source.left c.args.script.now) (g.S.Source.faults c.args.script.now)
     (g.S.Source.faults c.begin_due.new.script) in
@@ -29,7 +31,8 @@ pub returns-in-Renumber-clause-due : goal.returns-in-Renumber-clause-due
 returns-in-Renumber-clause-due g c =
     let a = c.args.accepted.now in
     let arm = c.in-Renumber in
-    let snapshot : SourceState = source_state (g.S.Source.left c.args.snapshot.now) (g.S.Source.faults c.args.snapshot.now)
+    let snapshot : SourceState =
+    source_state (g.S.Source.left c.args.snapshot.now) (g.S.Source.faults c.args.snapshot.now)
     (g.S.Source.faults c.renumber_due.new.snapshot) in
     let script : SourceState = source_state (g.S.Source.left c.args.script.now) (g.S.Source.faults c.args.script.now)
     (g.S.Source.faults c.args.script.now) in
@@ -43,7 +46,8 @@ pub returns-in-Numbers-clause-due : goal.returns-in-Numbers-clause-due
 returns-in-Numbers-clause-due g c =
     let a = c.args.accepted.now in
     let arm = c.in-Numbers in
-    let snapshot : SourceState = source_state (g.S.Source.left c.args.snapshot.now) (g.S.Source.faults c.args.snapshot.now)
+    let snapshot : SourceState =
+    source_state (g.S.Source.left c.args.snapshot.now) (g.S.Source.faults c.args.snapshot.now)
     (g.S.Source.faults c.numbers_due.new.snapshot) in
     let script : SourceState = source_state (g.S.Source.left c.args.script.now) (g.S.Source.faults c.args.script.now)
     (g.S.Source.faults c.args.script.now) in

@@ -14,7 +14,8 @@ returns-in-Ok-clause-ends g c = λ words asks.
 
 pub returns-in-Err-TooLong-clause-ends : goal.returns-in-Err-TooLong-clause-ends
 returns-in-Err-TooLong-clause-ends g c = λ words asks.
-    let t = long_text text_limit (g.S.Source.left c.args.edges.now.contract) _ (c.in-Err-TooLong.ensures.too_long (cc)) in
+    let left = g.S.Source.left c.args.edges.now.contract in
+    let t = long_text text_limit left _ (c.in-Err-TooLong.ensures.too_long (cc)) in
     errands.wrote 1 _ None (long-asked words _ _ _ _ asks t.0 t.1 t.2) (c.write_line.ensures.written _ refl)
 
 pub returns-in-Err-TooLong-clause-alone : goal.returns-in-Err-TooLong-clause-alone

@@ -33,7 +33,7 @@ pub(crate) enum Errand<'a> {
 
 /// The words that name files, each where there is one.
 #[derive(Clone, Copy, Debug)]
-pub(crate) struct Files<'a> {
+pub(crate) struct CarryFiles<'a> {
     pub(crate) contract: Option<&'a str>,
     pub(crate) snapshot: Option<&'a str>,
     pub(crate) script: Option<&'a str>,
@@ -53,7 +53,7 @@ impl<'a> Errand<'a> {
     }
 
     /// The files that are read and written.
-    pub(crate) fn files(self) -> Files<'a>
+    pub(crate) fn files(self) -> CarryFiles<'a>
         ensures contract { option_map (λ word. word.now) result.contract ≡ contract_file (carry_task self.entry) }
         ensures snapshot { option_map (λ word. word.now) result.snapshot ≡ snapshot_file (carry_task self.entry) }
         ensures script { option_map (λ word. word.now) result.script ≡ script_file (carry_task self.entry) }
@@ -73,7 +73,7 @@ impl<'a> Errand<'a> {
             } => (Some(file), Some(snapshot), None, Some(new)),
             Errand::Numbers { file, snapshot } => (Some(file), Some(snapshot), None, None),
         };
-        Files {
+        CarryFiles {
             contract,
             snapshot,
             script,
@@ -83,7 +83,7 @@ impl<'a> Errand<'a> {
 }
 
 /// The files that the words name: none where they ask for nothing.
-pub(crate) fn file_words(words: &[String]) -> Files<'_>
+pub(crate) fn file_words(words: &[String]) -> CarryFiles<'_>
     ensures contract { Names contract_file (map string_bytes words.now)
         (option_map (λ word. word.now) result.contract) }
     ensures snapshot { Names snapshot_file (map string_bytes words.now)
@@ -93,7 +93,7 @@ pub(crate) fn file_words(words: &[String]) -> Files<'_>
 {
     match errand_of(words) {
         Some(errand) => errand.files(),
-        None => Files {
+        None => CarryFiles {
             contract: None,
             snapshot: None,
             script: None,
