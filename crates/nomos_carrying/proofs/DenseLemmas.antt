@@ -15,11 +15,10 @@ use Rattle.std.proofs.lemmas.Map.Keys.{below_from_sorted, non_decreasing_from_so
 use Rattle.nomos_ir.specs.Bindings.{bound_to, each_bound}
 use Rattle.nomos_ir.specs.declared.ids.TypeId.{TypeId}
 use Rattle.nomos_ir.proofs.MappedLaws.{each-ascending, each-bound}
-use Rattle.nomos_contents.specs.declared.data.StateData.{StateData}
 use Rattle.nomos_legal.specs.Ledger.{AreNamed, Contracts, LedgerState, shared_name}
 use Rattle.nomos_machine.specs.Objects.{object_number, purse_of}
 use Rattle.nomos_machine.specs.State.{NameTypes}
-use Rattle.nomos_machine.specs.TypedState.{HasVariables, VariablesDiffer}
+use Rattle.nomos_machine.specs.TypedState.{HasVariables}
 use Rattle.nomos_machine.specs.declared.object.Object.{Object}
 use Rattle.nomos_machine.specs.declared.object.Object.TheVariants as object
 use Rattle.nomos_machine.specs.declared.object.Process.{Process}
@@ -27,7 +26,7 @@ use Rattle.nomos_script.specs.ScriptNames.{IsScriptName}
 use Rattle.nomos_snapshot.specs.Told.{AreSorted, parts_ledger}
 use Rattle.nomos_snapshot.specs.declared.parts.LedgerParts.{LedgerParts}
 use Rattle.nomos_types.specs.Judgement.{count_one}
-use Rattle.nomos_carrying.specs.Renumbered.{IsRenumbered, MakesDense, ledger_by, object_by, process_by}
+use Rattle.nomos_carrying.specs.Renumbered.{IsRenumbered, MakesDense, ledger_by, object_by}
 use Rattle.nomos_carrying.specs.mirror.Dense.{AreNumbersOf, NumberLists, place_in}
 
 -- ---- places

@@ -1,5 +1,5 @@
 -- What is due where there is no ledger to go on from, and where one's next numbers are told.
-use Rattle.std.proofs.Common.{◌≡◌, ◌≢◌, ◌∙◌, ◌++◌, ℕ, List, Option, Some, None, Result, Ok, Err, ap, refl, subst, sym}
+use Rattle.std.proofs.Common.{◌≡◌, ◌∙◌, ◌++◌, ℕ, List, Option, Some, None, Result, Ok, Err, ap, subst, sym}
 use Rattle.std.specs.Prelude.{IfOk, IfSome, codes}
 use Rattle.std.specs.Result.{result_ok}
 use Rattle.nomos_due.specs.Finding.{HasNoLedger, IsNoLedgerOf}

@@ -1,5 +1,5 @@
 -- The ledger of a text, renumbered: that it is of that text's ledger, that it stands, and what is due of it.
-use Rattle.std.proofs.Common.{◌≡◌, ◌≢◌, ◌∙◌, ◌+◌, ◌*◌, ◌/◌, ◌<◌, ◌≤◌, ℕ, zero, suc, List, map, length, Option, Some, None, Result, Ok, Err, IfErr, IfOk, refl, ap, sym, subst, arith}
+use Rattle.std.proofs.Common.{◌≡◌, ◌≢◌, ◌∙◌, ◌/◌, ◌<◌, ◌≤◌, ℕ, zero, suc, List, map, Option, Some, None, Result, Ok, Err, IfErr, IfOk, refl, ap, sym, subst, arith}
 use Rattle.std.specs.Prelude.{IfSome}
 use Rattle.std.proofs.Math.Nat.{mul-div_cancel}
 use Rattle.std.proofs.lemmas.List.{length-map}
@@ -11,11 +11,10 @@ use Rattle.nomos_due.specs.Resumes as resumes
 use Rattle.nomos_due.specs.SnapshotLines.{unloaded_line, unsaved_line}
 use Rattle.nomos_due.specs.declared.due.Due.{Due}
 use Rattle.nomos_due.specs.declared.resumes.NoLedger.TheVariants as no_ledger
-use Rattle.nomos_contents.specs.declared.data.StateData.{StateData}
 use Rattle.nomos_ir.specs.declared.ids.TypeId.{TypeId}
 use Rattle.nomos_legal.specs.Ledger.{AreNamed, LedgerState}
 use Rattle.nomos_legal.specs.StandsFor.{StandsFor}
-use Rattle.nomos_machine.specs.Objects.{object_number, purse_of}
+use Rattle.nomos_machine.specs.Objects.{object_number}
 use Rattle.nomos_machine.specs.Run.{IsQuiet, NoneReady}
 use Rattle.nomos_machine.specs.State.{State, gas_of, process_at}
 use Rattle.nomos_machine.specs.TypedState.{IsTyped, Numbered}

@@ -1,10 +1,9 @@
 -- Of a ledger that is loaded there is one renumbered ledger.
-use Rattle.std.proofs.Common.{◌≡◌, ◌∙◌, ◌+◌, ◌<◌, ◌≤◌, ◌==◌, ◌++◌, ◌∷◌, [], Bool, true, false, cond, ℕ, List, All, map, length, get_or, find, Option, Some, None, Ok, eq-eqb, refl, ap, sym, arith}
+use Rattle.std.proofs.Common.{◌≡◌, ◌∙◌, ◌≤◌, ◌==◌, ◌++◌, ◌∷◌, [], Bool, true, false, cond, ℕ, List, All, map, find, Option, Some, None, Ok, eq-eqb, refl, ap, sym, arith}
 use Rattle.std.specs.Prelude.{IsSome}
-use Rattle.std.specs.List.{count_by, sum_by}
 use Rattle.std.specs.Option.{option_map, option_to_list}
 use Rattle.std.proofs.lemmas.Bool.{eqb-true, false≢true}
-use Rattle.std.proofs.lemmas.List.{get_or_default, length-map}
+use Rattle.std.proofs.lemmas.List.{get_or_default}
 use Rattle.std.proofs.lemmas.List.Elements.{All-head, All-tail}
 use Rattle.std.proofs.lemmas.List.Sums.{sum_by-append, sum_by-cons}
 use Rattle.nomos_ir.specs.Bindings.{each_bound}
@@ -13,19 +12,17 @@ use Rattle.nomos_ir.specs.declared.ids.TypeId.{TypeId}
 use Rattle.nomos_ir.specs.declared.ids.VarId.{VarId}
 use Rattle.nomos_legal.specs.Ledger.{Contracts, LedgerState}
 use Rattle.nomos_legal.specs.StandsFor.{IsSettled}
-use Rattle.nomos_machine.specs.Objects.{carried, mentioned, object_number, talk_end, times, used}
+use Rattle.nomos_machine.specs.Objects.{carried, mentioned, object_number, times, used}
 use Rattle.nomos_machine.specs.State.{NameTypes, State, type_of}
-use Rattle.nomos_machine.specs.TypedState.{IsContractName, Numbered}
-use Rattle.nomos_machine.specs.declared.object.Message.{Message}
+use Rattle.nomos_machine.specs.TypedState.{IsContractName}
 use Rattle.nomos_machine.specs.declared.object.Object.{Object}
 use Rattle.nomos_machine.specs.declared.object.Object.TheVariants as object
 use Rattle.nomos_machine.specs.declared.object.Payload.{Payload}
 use Rattle.nomos_machine.specs.declared.object.Payload.TheVariants as payload
-use Rattle.nomos_machine.specs.declared.object.Process.{Process}
 use Rattle.nomos_snapshot.specs.Loading.{Loads}
 use Rattle.nomos_snapshot.proofs.LoadingLaws.{loads-loaded}
 use Rattle.nomos_types.specs.Acceptance.{Acceptance, IsAccepted}
-use Rattle.nomos_carrying.specs.Renumbered.{IsRenumbered, MakesDense, ledger_by, message_by, object_by, payload_by, process_by, state_by}
+use Rattle.nomos_carrying.specs.Renumbered.{IsRenumbered, MakesDense, ledger_by, object_by, payload_by, state_by}
 
 -- ---- numbers that both maps make dense
 

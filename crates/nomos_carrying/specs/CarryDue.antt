@@ -1,5 +1,5 @@
 -- What is due where a ledger is carried on: from the ledger of a snapshot, by a script, to the next snapshot.
-use Rattle.std.specs.Prelude.{◌≡◌, ◌⊎◌, ◌≤◌, ◌^◌, ℕ, List, [], ◌++◌, Option, Some, None, Ok, Err, codes, decimal}
+use Rattle.std.specs.Prelude.{◌≡◌, ◌⊎◌, ◌≤◌, ◌^◌, ℕ, List, ◌++◌, Option, Some, None, Ok, Err, codes, decimal}
 use Rattle.nomos_due.specs.Lines.{IsNoScript}
 use Rattle.nomos_due.specs.Outside.{Input}
 use Rattle.nomos_due.specs.Resumes.{IsNoLedger}

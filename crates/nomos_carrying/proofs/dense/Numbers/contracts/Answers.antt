@@ -2,7 +2,7 @@
 use Rattle.std.proofs.Common.{◌∙◌, ◌++◌, ◌∷◌, [], ℕ, List, sym}
 use Rattle.nomos_legal.specs.Ledger.{shared_name}
 use Rattle.nomos_carrying.specs.mirror.Dense.{place_in}
-use Rattle.nomos_carrying.proofs.DenseLemmas.{contract-more, contract-named, contract-new}
+use Rattle.nomos_carrying.proofs.DenseLemmas.{contract-more, contract-new}
 use Rattle.nomos_carrying.proofs.dense.Numbers.contracts.Goals as goal
 
 pub add-requires : goal.add-requires
