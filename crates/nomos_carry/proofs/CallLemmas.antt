@@ -7,7 +7,6 @@ use Rattle.nomos_due.proofs.SourceLemmas.{some_text}
 use Rattle.nomos_due.specs.Lines.{read_fault_line}
 use Rattle.nomos_due.specs.Outside.{FaultCounts, HasText, HaveRisen, Input, SinkState, SourceState, source_state}
 use Rattle.nomos_due.specs.Sources.{kept_text}
-use Rattle.nomos_due.specs.Written as writing
 use Rattle.nomos_due.specs.Written.{HasWrittenOut}
 use Rattle.nomos_due.specs.declared.due.Due.{Due}
 use Rattle.nomos_ir.specs.Limits.{text_limit}
@@ -19,19 +18,19 @@ use Rattle.nomos_top.specs.Seen.{Call, IsDone, Texts}
 use Rattle.nomos_top.specs.TaskRuns.{HasStopped}
 use Rattle.nomos_top.specs.Tasks.{Keeps, Waits}
 use Rattle.nomos_top.specs.Turns.{MayKeep, MayWait}
-use Rattle.nomos_types.specs.Acceptance.{Acceptance, IsAccepted}
+use Rattle.nomos_types.specs.Acceptance.{Acceptance}
 use Rattle.nomos_words.proofs.WordLaws.{one_task}
 use Rattle.nomos_words.specs.Options.{IsFileWord}
 use Rattle.nomos_words.specs.Words.{Asks, Task, check}
 use Rattle.nomos_carrying.specs.CarrySources.{IsBeginDueFor, IsCarryDueFor, IsNumbersDueFor, IsRenumberDueFor}
-use Rattle.nomos_carry.specs.Alone.{IsUnacceptedStatus, LeavesAlone}
+use Rattle.nomos_carry.specs.Alone.{LeavesAlone}
 use Rattle.nomos_carry.specs.CarryCall as calling
-use Rattle.nomos_carry.specs.CarryCall.{CarryCall, CarryEndsOn, CarryTexts, IsCallDue}
+use Rattle.nomos_carry.specs.CarryCall.{CarryCall, CarryEndsOn, CarryTexts}
 use Rattle.nomos_carry.specs.CarryClaims.{CarryClaims}
 use Rattle.nomos_carry.specs.CarryWords.{AskForNothing, AsksToCarry, CarryTask, carry, carry_usage, contract_word, new_file, numbers, renumber, script_file, snapshot_file}
 use Rattle.nomos_carry.specs.declared.carry.Edges.{Edges}
 use Rattle.nomos_carry.specs.mirror.Errands as errands
-use Rattle.nomos_carry.specs.mirror.Errands.{AloneFor, Behind, Ends, IsDueBehind, IsDueOn, IsJudgedDue, IsRefusalDue}
+use Rattle.nomos_carry.specs.mirror.Errands.{AloneFor, Ends, IsDueBehind, IsDueOn, IsJudgedDue, IsRefusalDue}
 use Rattle.nomos_carry.proofs.ClaimLaws.{ended-claims}
 use Rattle.nomos_carry.proofs.EndLaws.{due-not, due-view, written-status}
 

@@ -1,5 +1,5 @@
 -- All that is claimed of a call follows from how it ended.
-use Rattle.std.proofs.Common.{◌≡◌, ◌≢◌, ◌∙◌, ◌⊎◌, inl, inr, ℕ, List, Option, Some, None, Ok, refl, sym, ap, subst, arith}
+use Rattle.std.proofs.Common.{◌≡◌, ◌≢◌, inl, inr, ℕ, List, Option, Some, None, sym, subst, arith}
 use Rattle.nomos_accept.specs.AcceptedText.{IsAcceptedAs}
 use Rattle.nomos_due.specs.Outside.{Input}
 use Rattle.nomos_due.specs.Runs.{HasRunFrom, usual_orders}
@@ -10,12 +10,12 @@ use Rattle.nomos_top.specs.Headline.{GoesRightTo}
 use Rattle.nomos_top.specs.Seen.{IsDone}
 use Rattle.nomos_types.specs.Acceptance.{Acceptance, IsAccepted}
 use Rattle.nomos_carrying.proofs.RenumberedLaws.{renumbered-one}
-use Rattle.nomos_carry.specs.CarryCall.{CarryCall, CarryEndsOn, CarryInputs, CarryTexts, IsCallDue, IsDueOnAccepted, carry_inputs, snapshot_if}
+use Rattle.nomos_carry.specs.CarryCall.{CarryCall, CarryEndsOn, CarryTexts, carry_inputs, snapshot_if}
 use Rattle.nomos_carry.specs.CarryClaims.{AsksForCarry, AsksForNumbers, AsksForRenumbering, CarriesOn, CarryClaims, HasPrinted, HasSaved, Renumbers, TellsNext}
-use Rattle.nomos_carry.specs.CarryWords.{AsksToCarry, CarryTask, carry, numbers, renumber}
+use Rattle.nomos_carry.specs.CarryWords.{carry, numbers, renumber}
 use Rattle.nomos_carry.proofs.DeterminedLaws.{calls-alike}
 use Rattle.nomos_carry.proofs.EndLaws as view
-use Rattle.nomos_carry.proofs.EndLaws.{CarriedView, DoneView, EndView, NumbersView, RenumberedView, carry-view, done-view, due-view, end-view, numbers-view, renumber-view, undone-done, missed-undone, words-view}
+use Rattle.nomos_carry.proofs.EndLaws.{CarriedView, EndView, carry-view, done-view, due-view, end-view, numbers-view, renumber-view, undone-done, missed-undone, words-view}
 use Rattle.nomos_carry.proofs.RightLaws.{begun-right, loaded-right}
 use Rattle.nomos_carry.proofs.TaskLaws.{one-task}
 

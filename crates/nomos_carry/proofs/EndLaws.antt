@@ -29,7 +29,7 @@ use Rattle.nomos_carrying.specs.CarryDue.{HasCarried, IsCarryDue, IsNumbersDue, 
 use Rattle.nomos_carrying.specs.Renumbered as renumbering
 use Rattle.nomos_carrying.specs.Renumbered.{IsRenumberDue, IsRenumbered}
 use Rattle.nomos_carry.specs.CarryCall as call
-use Rattle.nomos_carry.specs.CarryCall.{CarryCall, CarryEndsOn, CarryEndsWithoutMemory, CarryEndsWritten, CarryInputs, CarryTexts, IsCallDue, IsDueOnAccepted, carry_inputs, snapshot_if}
+use Rattle.nomos_carry.specs.CarryCall.{CarryCall, CarryEndsOn, CarryEndsWithoutMemory, CarryEndsWritten, CarryInputs, CarryTexts, IsCallDue, IsDueOnAccepted, carry_inputs}
 use Rattle.nomos_carry.specs.CarryClaims.{HasPrinted}
 use Rattle.nomos_carry.specs.CarryWords.{AsksToCarry, CarryTask, carry, contract_word, new_file, numbers, renumber}
 use Rattle.nomos_carry.proofs.OneDueLaws.{saves-text}

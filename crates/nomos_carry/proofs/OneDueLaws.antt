@@ -1,5 +1,5 @@
 -- On an accepted contract, with one snapshot and one script, one thing is due, unless a source failed.
-use Rattle.std.proofs.Common.{◌≡◌, ◌∙◌, ◌⊎◌, inl, inr, ℕ, List, ◌++◌, length, All, Option, Some, None, Result, Ok, Err, refl, sym, ap, subst, arith}
+use Rattle.std.proofs.Common.{◌≡◌, ◌∙◌, ◌⊎◌, inl, inr, ℕ, List, ◌++◌, length, Option, Some, None, Result, Ok, Err, refl, sym, ap, subst, arith}
 use Rattle.std.specs.Prelude.{codes, decimal}
 use Rattle.nomos_due.specs.Lines as lines
 use Rattle.nomos_due.specs.Lines.{IsNoScript, script_refusal}
@@ -17,12 +17,11 @@ use Rattle.nomos_report.specs.Reported.{report_of, run_status}
 use Rattle.nomos_script.proofs.ReadingLaws.{reads_once, reads_without_syntax, syntax_once}
 use Rattle.nomos_script.specs.ScriptReading.{IsSyntaxAt, ReadsAs}
 use Rattle.nomos_script.specs.declared.item.ScriptItem.{ScriptItem}
-use Rattle.nomos_snapshot.proofs.LoadingLaws.{loads-loaded, loads-one}
+use Rattle.nomos_snapshot.proofs.LoadingLaws.{loads-one}
 use Rattle.nomos_snapshot.specs.Loading.{Loads}
 use Rattle.nomos_snapshot.specs.Saving as saving
 use Rattle.nomos_snapshot.specs.Saving.{Saves}
 use Rattle.nomos_snapshot.specs.Text.{snapshot_text}
-use Rattle.nomos_snapshot.specs.declared.error.LoadError.{LoadError}
 use Rattle.nomos_snapshot.specs.declared.error.SaveError.{SaveError}
 use Rattle.nomos_types.specs.Acceptance.{Acceptance, IsAccepted}
 use Rattle.nomos_carrying.specs.CarryDue as carrying

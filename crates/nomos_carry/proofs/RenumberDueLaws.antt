@@ -1,10 +1,8 @@
 -- Where a ledger is renumbered one thing is due, unless the source of its snapshot failed.
-use Rattle.std.proofs.Common.{◌≡◌, ◌∙◌, ◌≤◌, ◌<◌, ◌*◌, ◌/◌, ◌⊎◌, inl, inr, ℕ, List, Option, Some, None, Result, Ok, Err, refl, sym, ap, subst, arith}
+use Rattle.std.proofs.Common.{◌≡◌, ◌∙◌, ◌≤◌, ◌<◌, ◌/◌, inl, inr, ℕ, List, Option, Some, Result, Ok, Err, refl, sym, ap, subst, arith}
 use Rattle.std.proofs.Math.Nat.{mul-div_cancel}
 use Rattle.std.proofs.lemmas.Bool.{cases_lt}
 use Rattle.nomos_due.specs.Outside.{Input}
-use Rattle.nomos_due.specs.Resumes as resumes
-use Rattle.nomos_due.specs.Resumes.{IsNoLedger}
 use Rattle.nomos_due.specs.SnapshotLines.{unloaded_line, unsaved_line}
 use Rattle.nomos_legal.specs.Ledger.{LedgerState}
 use Rattle.nomos_legal.specs.StandsFor.{StandsFor}
@@ -12,12 +10,11 @@ use Rattle.nomos_machine.specs.Run.{IsNextReady}
 use Rattle.nomos_machine.specs.State.{State}
 use Rattle.nomos_snapshot.proofs.LoadingLaws.{loads-loaded, loads-one}
 use Rattle.nomos_snapshot.specs.Loading as loading
-use Rattle.nomos_snapshot.specs.Loading.{Admits, IsSoundLedger, IsWorth, Loads}
+use Rattle.nomos_snapshot.specs.Loading.{Admits, IsWorth, Loads}
 use Rattle.nomos_snapshot.specs.Saving as saving
 use Rattle.nomos_snapshot.specs.Saving.{Saves}
 use Rattle.nomos_snapshot.specs.Text.{snapshot_text}
 use Rattle.nomos_snapshot.specs.declared.error.LoadError.{LoadError}
-use Rattle.nomos_snapshot.specs.declared.error.LoadError.TheVariants as error
 use Rattle.nomos_snapshot.specs.declared.error.SaveError.{SaveError}
 use Rattle.nomos_types.specs.Acceptance.{Acceptance, IsAccepted}
 use Rattle.nomos_carrying.proofs.RenumberedLaws.{renumbered-one}

@@ -1,9 +1,9 @@
 -- What a call carries on goes right, since `nomos` would go on so: a save begins at the empty ledger, and a resume at
 -- one that is loaded.
-use Rattle.std.proofs.Common.{◌≡◌, ◌≢◌, ◌∙◌, ◌⊎◌, inl, inr, ℕ, List, [], ◌∷◌, Option, Some, None, Ok, refl, sym, subst, arith}
+use Rattle.std.proofs.Common.{◌≡◌, inl, ℕ, List, [], ◌∷◌, Some, None, Ok, refl, subst, arith}
 use Rattle.std.specs.Prelude.{codes}
 use Rattle.nomos_accept.specs.AcceptedText.{IsAcceptedAs}
-use Rattle.nomos_due.specs.Outside.{Input, sink_state, source_state}
+use Rattle.nomos_due.specs.Outside.{sink_state, source_state}
 use Rattle.nomos_due.specs.Resumes as resumes
 use Rattle.nomos_due.specs.Runs.{HasRunFrom, usual_orders}
 use Rattle.nomos_due.specs.Saves as saves
