@@ -292,7 +292,7 @@ renumbered-due snapshot m d has (keeps loads tells) =
     (renumbered.renumbered has.ledger m d.out.items has.loads has.is loads tells.told)
 renumbered-due snapshot m d has (keeps_none why never bare) =
     rw (bare.status_is, bare.text_is, bare.nothing_kept)
-    (renumbered.unsaved has.ledger m why has.loads has.is never)
+    (renumbered.unsaved has.ledger m why has.loads has.is has.stands never)
 
 -- and this where there is none
 pub not_renumbered-due : {a : Acceptance} (snapshot : Input) (why : LoadError) (d : Due)

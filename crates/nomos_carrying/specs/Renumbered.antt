@@ -6,6 +6,7 @@ use Rattle.nomos_due.specs.Resumes.{IsNoLedger}
 use Rattle.nomos_due.specs.SnapshotLines.{unloaded_line, unsaved_line}
 use Rattle.nomos_ir.specs.Bindings.{each_bound}
 use Rattle.nomos_legal.specs.Ledger.{LedgerState}
+use Rattle.nomos_legal.specs.StandsFor.{StandsFor}
 use Rattle.nomos_machine.specs.Objects.{object_number}
 use Rattle.nomos_machine.specs.State.{State}
 use Rattle.nomos_machine.specs.declared.object.Message.{Message}
@@ -85,13 +86,13 @@ pub record IsRenumbered (l m : LedgerState) : Type 0 where
   pub is : m ≡ ledger_by objects names l
 
 -- What is due where the ledger of a snapshot is renumbered: a status, what is to be written to the output, and the next
--- snapshot if there is one. The renumbered ledger is believed only where its own snapshot is loaded as it: where it is
--- not admitted as a text's ledger would be, or not saved, the cause is told, and nothing is kept.
+-- snapshot if there is one. The renumbered ledger is believed only where its own snapshot is loaded as it. Where it is
+-- not admitted as a text's ledger would be, or stands and is not saved, the cause is told, and nothing is kept.
 pub data IsRenumberDue (a : Acceptance) (snapshot : Input) : ℕ → List ℕ → Option (List ℕ) → Type 0 where
   no_ledger : (status : ℕ) (out : List ℕ) → IsNoLedger a snapshot status out → IsRenumberDue a snapshot status out None
   not_admitted : (l m : LedgerState) (why : LoadError) → Loads a snapshot.text (Ok l) → IsRenumbered l m
       → Admits a m (Err why) → IsRenumberDue a snapshot 11 (unloaded_line why) None
-  unsaved : (l m : LedgerState) (why : SaveError) → Loads a snapshot.text (Ok l) → IsRenumbered l m
+  unsaved : (l m : LedgerState) (why : SaveError) → Loads a snapshot.text (Ok l) → IsRenumbered l m → StandsFor a m
       → Saves a m (Err why) → IsRenumberDue a snapshot 11 (unsaved_line why) None
   renumbered : (l m : LedgerState) (out : List ℕ) → Loads a snapshot.text (Ok l) → IsRenumbered l m
       → Loads a (snapshot_text a m) (Ok m) → TellsNumbers m.state.next_object m.state.next_name out
