@@ -48,10 +48,10 @@ _nomos_run() {
 
 # _nomos_carry: offers the options of nomos-carry, and else says which files are wanted
 _nomos_carry() {
-    local at=$COMP_CWORD
+    local at=$COMP_CWORD offered='--renumber --numbers'
     [[ ${COMP_WORDS[1]} != --* ]] || at=$((at - 1))
     case $COMP_CWORD:$at:$word in
-    1:*:-*) mapfile -t COMPREPLY < <(compgen -W '--renumber --numbers' -- "$word") && return 0 ;;
+    1:*:-*) mapfile -t COMPREPLY < <(compgen -W "$offered" -- "$word") && return 0 ;;
     *:1:*) ;;
     3:3:*) wanted='*.script' ;;
     *) wanted='*' ;;
