@@ -161,7 +161,8 @@ module _ (lists : ProgramLists) (s : Standing) (at : ℕ) (c : Chan) (arms : Lis
     (typed : HasType lists (shape_of s) c (by_side c (node.With bs) (node.Plus bs))) where
   -- the branches of a rule are those of the channel's type
   same-branches : {after : List Judgement} → (says : AwaitsLabel lists (shape_of s) c arms after) → says.branches ≡ bs
-  same-branches says = awaited-branches-same c says.branches bs (head-unique lists (shape_of s) c _ _ says.channel typed)
+  same-branches says = awaited-branches-same c says.branches bs
+      (head-unique lists (shape_of s) c _ _ says.channel typed)
 
   -- without an arm for each branch no rule applies
   pub branch-stuck : ¬ (All (λ b. HasArm arms b.label) bs) → NoRow lists (shape_of s)

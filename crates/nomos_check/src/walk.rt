@@ -128,8 +128,8 @@ impl<'p> Walk<'p> {
         Ok(())
     }
 
-    /// Notes what is in hand before the instruction, where it is wanted, and the potential before it, and at a call that
-    /// less what the called declaration needs.
+    /// Notes what is in hand before the instruction, where it is wanted, and the potential before it, and at a call
+    /// that less what the called declaration needs.
     pub(crate) fn note(&mut self, program: &Program, now: &Standing) -> Result<(), AllocError>
         requires formed { IsWellFormed program.now }
         requires within { IsWithin program.now now.now }

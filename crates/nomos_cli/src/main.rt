@@ -87,7 +87,8 @@ fn call<
       taken = result.taken;
     }) }
     ensures untouched { Untouched (map string_bytes words.now)
-        (record { script = S.left outside.old.script; third = S.left outside.old.journal_in }) result.status result.accepted
+        (record { script = S.left outside.old.script; third = S.left outside.old.journal_in }) result.status
+        result.accepted
         (record {
           contract = outside.old.contract;
           script = outside.old.script;

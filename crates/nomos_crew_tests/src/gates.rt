@@ -1,5 +1,5 @@
-//! Gates of tests: one that counts its calls, one that notes whom it was told of, and one at which workers wait for each
-//! other.
+//! Gates of tests: one that counts its calls, one that notes whom it was told of, and one at which workers wait for
+//! each other.
 
 use nomos_workers::gate::Gate;
 use std::sync::atomic::{AtomicU64, Ordering};

@@ -85,7 +85,8 @@ module _ (a : Acceptance) (s : State) (p : Process) (vs : List Value) (at : ℕ)
             let number = (process_at-there s pid p there).1 in
             let one : is.other ≡ p = one-process is.other (sym is.stands ∙ ap (process_at s) (same ∙ number) ∙ there) in
             let node : n ≡ own =
-            one-node (sym (other-node is.other is.is) ∙ ap (λ (q : Process). slice_get a.program.code q.code.0) one ∙ own_stands) in
+            one-node (sym (other-node is.other is.is) ∙ ap (λ (q : Process). slice_get a.program.code q.code.0) one
+            ∙ own_stands) in
             absurd (never (sym turned ∙ ap turns node ∙ own_waits))
 
   pub acquired : (pid : ℕ) (r v : VarId) (head : TypeNode) (goes : TypeId) → process_at s pid ≡ Some p
@@ -104,7 +105,8 @@ module _ (a : Acceptance) (s : State) (p : Process) (vs : List Value) (at : ℕ)
       rw (bound, is.offers, other-node is.other is.is, accepts, type, is.stands, others) refl
 
   pub released : (pid : ℕ) (v r : VarId) (base : ℕ) → process_at s pid ≡ Some p
-      → slice_get a.program.code p.code.0 ≡ Some (code.Release at v r next) → bound_to v.0 p.channels ≡ Some name → detach_next n ≡ Some onward
+      → slice_get a.program.code p.code.0 ≡ Some (code.Release at v r next) → bound_to v.0 p.channels ≡ Some name
+      → detach_next n ≡ Some onward
       → seen.base ≡ Some base
       → option_map changes (act_change a s p vs (act.Release v r base seen.pid onward next))
       ≡ deed_at a s p vs (code.Release at v r next)

@@ -74,7 +74,8 @@ pub enum Act {
         onward: CodeId,
         next: CodeId,
     },
-    /// It spawns a process of the declaration, with the instruction's arguments, whose channel is bound to the variable.
+    /// It spawns a process of the declaration, with the instruction's arguments, whose channel is bound to the
+    /// variable.
     Spawn {
         variable: VarId,
         declaration: ProcId,

@@ -46,7 +46,8 @@ fn truth_in(value: &ValueNode) -> bool
 
 // The declared potential of a declaration, in Dths.
 fn bound_of(accepted: &Accepted, f: ProcId) -> Option<u64>
-    ensures { result ≡ option_map (λ d. dths accepted.now.annotations d.amount) (slice_get accepted.now.program.procs f.0) }
+    ensures { result ≡ option_map (λ d. dths accepted.now.annotations d.amount)
+        (slice_get accepted.now.program.procs f.0) }
 {
     let _declaration = find_declaration(accepted, f)?;
     Some(accepted.bound(f))

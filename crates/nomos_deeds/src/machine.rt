@@ -231,7 +231,8 @@ pub trait Machine: Acting {
         ensures { result ≡ waits accepted.now (Self.state self.now).objects pid };
 
     /// The number of the process that stands for a shared name: it offers the name, or it is acquired and has the name
-    /// as base. It is asked of shared names alone: nobody stands for a name of another mode, though a process offers it.
+    /// as base. It is asked of shared names alone: nobody stands for a name of another mode, though a process offers
+    /// it.
     fn keeper(&self, shared: u32) -> Option<u32>
         ensures { result ≡ keeper (Self.state self.now).objects shared };
 

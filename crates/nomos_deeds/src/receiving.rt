@@ -103,7 +103,8 @@ fn receives(message: SeenMessage, channel: Chan, into: Into, next: Option<CodeId
 /// A `case`: the branch of the label that it receives.
 pub(crate) fn case_at<S: Sight>(sight: &S, pid: u32, channel: Chan, arms: &Arms) -> Option<Doing>
     requires { IsStrictlySortedBy nat_cmp (map object_number (S.state sight.now).objects) }
-    ensures decides { (a : Acceptance) (at : ℕ) → Decides a (S.state sight.now) pid (code.Case at channel arms.now) result }
+    ensures decides { (a : Acceptance) (at : ℕ)
+        → Decides a (S.state sight.now) pid (code.Case at channel arms.now) result }
     ensures frugal { IsFrugalDoing result }
 {
     let message = message_read(sight, pid, channel)?;
@@ -120,7 +121,8 @@ pub(crate) fn recv_at<S: Sight>(
     next: CodeId,
 ) -> Option<Doing>
     requires { IsStrictlySortedBy nat_cmp (map object_number (S.state sight.now).objects) }
-    ensures decides { (a : Acceptance) (at : ℕ) → Decides a (S.state sight.now) pid (code.Recv at channel variable next) result }
+    ensures decides { (a : Acceptance) (at : ℕ)
+        → Decides a (S.state sight.now) pid (code.Recv at channel variable next) result }
     ensures frugal { IsFrugalDoing result }
 {
     let message = message_read(sight, pid, channel)?;
@@ -137,7 +139,8 @@ pub(crate) fn take_at<S: Sight>(
     next: CodeId,
 ) -> Option<Doing>
     requires { IsStrictlySortedBy nat_cmp (map object_number (S.state sight.now).objects) }
-    ensures { (a : Acceptance) (at : ℕ) → Decides a (S.state sight.now) pid (code.Take at channel variable next) result }
+    ensures { (a : Acceptance) (at : ℕ)
+        → Decides a (S.state sight.now) pid (code.Take at channel variable next) result }
 {
     let message = message_read(sight, pid, channel)?;
     let next = after_value(message.brings, next);
@@ -147,7 +150,8 @@ pub(crate) fn take_at<S: Sight>(
 /// A `get`: it has the message's purse.
 pub(crate) fn get_at<S: Sight>(sight: &S, pid: u32, channel: Chan, next: CodeId) -> Option<Doing>
     requires { IsStrictlySortedBy nat_cmp (map object_number (S.state sight.now).objects) }
-    ensures decides { (a : Acceptance) (at : ℕ) (r : Amount) → Decides a (S.state sight.now) pid (code.Get at channel r next) result }
+    ensures decides { (a : Acceptance) (at : ℕ) (r : Amount)
+        → Decides a (S.state sight.now) pid (code.Get at channel r next) result }
     ensures frugal { IsFrugalDoing result }
 {
     let message = message_read(sight, pid, channel)?;
@@ -176,7 +180,8 @@ fn hears(message: SeenMessage, variable: VarId, next: CodeId) -> Option<Doing>
 /// A `wait`: the channel of the variable is gone.
 pub(crate) fn wait_at<S: Sight>(sight: &S, pid: u32, variable: VarId, next: CodeId) -> Option<Doing>
     requires { IsStrictlySortedBy nat_cmp (map object_number (S.state sight.now).objects) }
-    ensures decides { (a : Acceptance) (at : ℕ) → Decides a (S.state sight.now) pid (code.Wait at variable next) result }
+    ensures decides { (a : Acceptance) (at : ℕ)
+        → Decides a (S.state sight.now) pid (code.Wait at variable next) result }
     ensures frugal { IsFrugalDoing result }
 {
     let message = message_read(sight, pid, Chan::Var(variable))?;

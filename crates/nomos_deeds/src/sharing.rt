@@ -29,7 +29,8 @@ pub(crate) fn acquire_at<S: Sight>(
     next: CodeId,
 ) -> Option<Doing>
     requires { IsStrictlySortedBy nat_cmp (map object_number (S.state sight.now).objects) }
-    ensures decides { (at : ℕ) → Decides accepted.now (S.state sight.now) pid (code.Acquire at variables.0 variables.1 next) result }
+    ensures decides { (at : ℕ)
+        → Decides accepted.now (S.state sight.now) pid (code.Acquire at variables.0 variables.1 next) result }
     ensures frugal { IsFrugalDoing result }
 {
     let shared = sight.channel(pid, variables.0)?;
@@ -55,7 +56,8 @@ pub(crate) fn release_at<S: Sight>(
     next: CodeId,
 ) -> Option<Doing>
     requires { IsStrictlySortedBy nat_cmp (map object_number (S.state sight.now).objects) }
-    ensures decides { (at : ℕ) → Decides accepted.now (S.state sight.now) pid (code.Release at variables.0 variables.1 next) result }
+    ensures decides { (at : ℕ)
+        → Decides accepted.now (S.state sight.now) pid (code.Release at variables.0 variables.1 next) result }
     ensures frugal { IsFrugalDoing result }
 {
     let name = sight.channel(pid, variables.0)?;

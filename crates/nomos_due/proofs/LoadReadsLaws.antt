@@ -59,7 +59,8 @@ text-both : (text more : List ℕ) (forms others : List Form) → TextReadsAs te
     → TextReadsAs (text ++ more) (forms ++ others)
 text-both text more forms others first second rest behind reads =
     subst (λ (t : List ℕ). LinesReadAs (lines_of t) ((forms ++ others) ++ behind)) (sym (append_assoc text more rest))
-    (subst (λ (fs : List Form). LinesReadAs (lines_of (text ++ (more ++ rest))) fs) (sym (append_assoc forms others behind))
+    (subst (λ (fs : List Form). LinesReadAs (lines_of (text ++ (more ++ rest))) fs)
+    (sym (append_assoc forms others behind))
     (first (more ++ rest) (others ++ behind) (second rest behind reads)))
 
 text-line : (line : List ℕ) (form : Form) → ArePlain line → LineReadsAs line form
@@ -79,7 +80,8 @@ passes-all : (p : ℕ → Bool) (bytes : List ℕ) (c : ℕ) (rest : List ℕ) �
     → prefix_len p (bytes ++ c ∷ rest) ≡ length bytes
 passes-all p [] c rest all stops = rw stops refl
 passes-all p (b ∷ bytes) c rest all stops =
-    let both = and_parts (p b) (list_all p bytes) all in rw (both.0, passes-all p bytes c rest both.1 stops) (omega arith)
+    let both = and_parts (p b) (list_all p bytes) all in rw (both.0, passes-all p bytes c rest both.1 stops)
+    (omega arith)
 
 -- a word up to a byte of none
 word-before : (b : ℕ) (bytes : List ℕ) (c : ℕ) (rest : List ℕ) → is_blank b ≡ false → (b == 47) ≡ false
@@ -316,7 +318,8 @@ wallet-reads k few d =
 
 bid-tokens : (k amount : ℕ) → Decimal k → Decimal amount
     → tokens_of
-    (codes "exec u" ++ (decimal k ++ (codes " place(" ++ (decimal amount ++ (codes "; auc, w" ++ (decimal k ++ codes ")"))))))
+    (codes "exec u" ++ (decimal k
+    ++ (codes " place(" ++ (decimal amount ++ (codes "; auc, w" ++ (decimal k ++ codes ")"))))))
     ≡ word (codes "exec") ∷ word (user k) ∷ word (codes "place") ∷ mark (codes "(") ∷ number (decimal amount)
     ∷ mark (codes ";") ∷ word (codes "auc") ∷ mark (codes ",") ∷ word (wallet k) ∷ mark (codes ")") ∷ []
 unfolding tokens_from piece_at
@@ -421,7 +424,8 @@ bidders-read seed (suc k) few =
     let small = (bid_within seed n).1 in
     let a : Decimal amount = decimal-of amount (omega (arith, small)) in
     let own : TextReadsAs (bidder_lines n amount) (bidder_forms n amount) =
-    text-both (gas_line n ++ wallet_line n) (bid_line n amount) (gas_form n ∷ wallet_form n ∷ []) (bid_form n amount ∷ [])
+    text-both (gas_line n ++ wallet_line n) (bid_line n amount) (gas_form n ∷ wallet_form n ∷ [])
+    (bid_form n amount ∷ [])
     (text-both (gas_line n) (wallet_line n) (gas_form n ∷ []) (wallet_form n ∷ []) (gas-reads n few d)
     (wallet-reads n few d))
     (bid-reads n amount few small d a) in
@@ -530,7 +534,8 @@ load-alone seed bidders =
     let auction : List Form = create (codes "auc") start_call ∷ [] in
     alone-both front_forms (bidders_forms seed bidders ++ last_forms)
     (alone-one (deposit seller (codes "2")) (create (codes "ws") keep_call ∷ auction) tt
-    (alone-one (create (codes "ws") keep_call) auction tt (alone-one (create (codes "auc") start_call) [] tt none-alone)))
+    (alone-one (create (codes "ws") keep_call) auction tt
+    (alone-one (create (codes "auc") start_call) [] tt none-alone)))
     (alone-both (bidders_forms seed bidders) last_forms (bidders-alone seed bidders)
     (alone-one (exec ask_call) [] tt none-alone))
 
@@ -558,7 +563,8 @@ load-reads seed bidders few =
     let whole : TextReadsAs (front ++ (bidding ++ last)) forms =
     text-both front (bidding ++ last) front_forms (bidders_forms seed bidders ++ last_forms) front-reads
     (text-both bidding last (bidders_forms seed bidders) last_forms (bidders-read seed bidders few) last-reads) in
-    let lines : LinesReadAs (lines_of (load_script seed bidders)) forms = close (load_script seed bidders) forms whole in
+    let lines : LinesReadAs (lines_of (load_script seed bidders)) forms = close (load_script seed bidders) forms
+    whole in
     record {
       limit = load_script-short seed bidders few;
       paragraphs = map single forms;

@@ -49,8 +49,8 @@ fn unsaved_due(alloc: Global, journal: Journal, why: &SaveError) -> Result<Due, 
     }
 }
 
-/// What is due of a run of which all items have passed: its report, and its ledger saved, or the line of a ledger that is
-/// refused. Want of memory gives the journal of the run.
+/// What is due of a run of which all items have passed: its report, and its ledger saved, or the line of a ledger that
+/// is refused. Want of memory gives the journal of the run.
 pub fn saved_due<M: Contents + Drop>(
     alloc: Global,
     accepted: &Accepted,

@@ -13,7 +13,8 @@ use nomos_base::{Sink, write_all};
 fn write_text<K: Sink>(status: u8, text: &[u8], journal_out: &mut K) -> u8
     ensures { (bytes : List ℕ) (out : SinkState) → out.after ≡ with_end out.before bytes
         → HasWrittenOut status bytes (Some text.now) out
-        (sink_state (K.written journal_out.old) (K.written journal_out.new) (K.faults journal_out.old) (K.faults journal_out.new))
+        (sink_state (K.written journal_out.old) (K.written journal_out.new) (K.faults journal_out.old)
+        (K.faults journal_out.new))
         result }
 {
     match write_all(journal_out, text) {
@@ -26,7 +27,8 @@ fn write_text<K: Sink>(status: u8, text: &[u8], journal_out: &mut K) -> u8
 fn write_kept<K: Sink>(due: &Due, journal_out: &mut K) -> u8
     ensures written { (bytes : List ℕ) (out : SinkState) → out.after ≡ with_end out.before bytes
         → HasWrittenOut due.now.status bytes (kept_text due.now) out
-        (sink_state (K.written journal_out.old) (K.written journal_out.new) (K.faults journal_out.old) (K.faults journal_out.new))
+        (sink_state (K.written journal_out.old) (K.written journal_out.new) (K.faults journal_out.old)
+        (K.faults journal_out.new))
         result }
     ensures none { kept_text due.now ≡ None → journal_out.new ≡ journal_out.old }
 {
@@ -41,7 +43,8 @@ fn write_kept<K: Sink>(due: &Due, journal_out: &mut K) -> u8
 pub fn write_due<K: Sink>(due: &Due, out: &mut K, journal_out: &mut K) -> u8
     ensures written { HasWrittenOut due.now.status due.now.out.items (kept_text due.now)
         (sink_state (K.written out.old) (K.written out.new) (K.faults out.old) (K.faults out.new))
-        (sink_state (K.written journal_out.old) (K.written journal_out.new) (K.faults journal_out.old) (K.faults journal_out.new))
+        (sink_state (K.written journal_out.old) (K.written journal_out.new) (K.faults journal_out.old)
+        (K.faults journal_out.new))
         result }
 
     // Where there is no text of a journal, or the output was not all written, the journal's sink stays as it was.

@@ -14,7 +14,8 @@ use Rattle.nomos_equality.specs.mirror.PairTables.{has_bit, AreAmong, HasSameBit
 pub has_bit-with : (n k i : ℕ) → k < 64 → has_bit (bit_or n (1 * 2 ^ k % 2 ^ 64)) i ≡ true
     → (has_bit n i ≡ true) ⊎ (i ≡ k)
 has_bit-with n k i within is =
-    ⊎_elim (λ e. inr e.1) (λ e. inl (sym (ap (λ b. b == 1) (bit_at_set_other w64 n k within i e.1)) ∙ is)) (eqb_tells i k)
+    ⊎_elim (λ e. inr e.1) (λ e. inl (sym (ap (λ b. b == 1) (bit_at_set_other w64 n k within i e.1)) ∙ is))
+    (eqb_tells i k)
 
 -- a row in which one word has one more bit
 pub sets-one : (row : List ℕ) (right word : ℕ) → right / 64 < length row

@@ -76,7 +76,8 @@ module _ (lists : ProgramLists) (a b : TypeId) (old s : Known) (before : HasComp
   nodes-at u v left right nodes left_unfolds right_unfolds =
       record {
         left_there = constructor-node lists u.0 nodes.left left nodes.at.left_there nodes.left_constructs left_unfolds;
-        right_there = constructor-node lists v.0 nodes.right right nodes.at.right_there nodes.right_constructs right_unfolds;
+        right_there = constructor-node lists v.0 nodes.right right nodes.at.right_there nodes.right_constructs
+            right_unfolds;
       }
 
   -- the amounts at the end of a path from a pair are noted
@@ -167,7 +168,8 @@ pub met-finds : (lists : ProgramLists) (a b : TypeId) (k : Compared) → HasComp
     → IsMet lists (Among k.types) a b → FindsEqual lists a b k k
 met-finds lists a b k before met =
     let shapes : EqualShapes lists met.left met.right =
-    All-contains (λ (p : TypeId × TypeId). EqualShapes lists p.0 p.1) k.types (met.left, met.right) before.equal met.among
+    All-contains (λ (p : TypeId × TypeId). EqualShapes lists p.0 p.1) k.types (met.left, met.right) before.equal
+    met.among
     in
     record {
       shapes = λ n. agree-behind lists no_amounts n a b met.left met.right met.left_is met.right_is (shapes n);

@@ -269,8 +269,18 @@ pub record IsGathering (lists : ProgramLists) (a b : TypeId) (old s : Known) : T
 -- the two types themselves
 reached-first : (lists : ProgramLists) (a b : TypeId) (p : TypeId × TypeId) → IsUnfolding lists a.0 p.0.0
     → IsUnfolding lists b.0 p.1.0 → IsReached lists a b p
-reached-first lists a b p left right =
-    ([], record { left_type = a; right_type = b; left_leads = ends a; right_leads = ends b; left_is = left; right_is = right })
+reached-first lists a b p left right = (
+  [],
+  record {
+    left_type = a;
+    right_type = b;
+    left_leads = ends a;
+    right_leads = ends b;
+    left_is = left;
+    right_is =
+        right;
+  },
+)
 
 -- parts of what is reached are reached
 reached-part : (lists : ProgramLists) (a b u v : TypeId) (p : TypeId × TypeId) → IsReached lists a b (u, v)

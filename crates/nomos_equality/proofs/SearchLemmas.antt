@@ -33,7 +33,8 @@ use Rattle.nomos_equality.proofs.VisitLemmas.{get-front, get-push, met-wider, fo
 
 classed-front : (s t : Search) → IsFront s.classes t.classes → (u v : TypeId) → Classed s u v → Classed t u v
 classed-front s t front u v linked =
-    subst (λ (l : List (TypeId × TypeId)). Linked l u.0 v.0) (sym front.is) (linked-more s.classes front.more u.0 v.0 linked)
+    subst (λ (l : List (TypeId × TypeId)). Linked l u.0 v.0) (sym front.is)
+    (linked-more s.classes front.more u.0 v.0 linked)
 
 pub meets-front : (lists : ProgramLists) (s t : Search) (a b : TypeId) (from : Option Origin) → Meets lists s a b from t
     → IsFront s.classes t.classes × IsMet lists (Classed t) a b

@@ -74,7 +74,8 @@ numbers-step program lists scopes todo operator old others x y n took =
     ∙ ap (λ c. go_on (on_numbers (operation operator) (datum_value lists x) (datum_value lists y) n)
     (λ v. rest (evaluation_from program) program scopes todo (v ∷ c))) others_is
 
-pub numbers-done : (operator : Operator) (old : Evaluator) (mid others values : List Datum) (x y d : Datum) → IsSound old
+pub numbers-done : (operator : Operator) (old : Evaluator) (mid others values : List Datum) (x y d : Datum)
+    → IsSound old
     → y ≡ top_datum old.values → mid ≡ below_top old.values → x ≡ top_datum mid → others ≡ below_top mid
     → ((lists : List ValueList) (n : ℕ)
     → on_numbers (operation operator) (datum_value lists x) (datum_value lists y) n ≡ ends (datum_value lists d) n)

@@ -328,7 +328,8 @@ pub variable-found : (x : TermNode) (scope : Scope) (at : ℕ) (v : VarId) (old 
 variable-found x scope at v old new is entered =
     let P : TermNode → Type 0 = λ y. IsEntered scope y old new in subst P (sym is) (entered at)
 
-pub nil-found : (x : TermNode) (scope : Scope) (at : ℕ) (k : Kind) (old : Evaluator) (place : ℕ) (lists : List ValueList)
+pub nil-found : (x : TermNode) (scope : Scope) (at : ℕ) (k : Kind) (old : Evaluator) (place : ℕ)
+    (lists : List ValueList)
     (values : List Datum) → x ≡ node.Nil at k → IsSound old → place ≡ length old.lists
     → lists ≡ old.lists ++ no_values ∷ [] → values ≡ datum.List place ∷ old.values
     → IsEntered scope x old (record {

@@ -45,8 +45,8 @@ pub(crate) fn parts(lists: &mut Lists, place: usize) -> Result<Option<(Datum, us
     Ok(Some((datum, tail)))
 }
 
-/// Gives a value out. It uses the evaluator's stack in step with how deep the lists are nested that the evaluation made;
-/// a list that was given is one step.
+/// Gives a value out. It uses the evaluator's stack in step with how deep the lists are nested that the evaluation
+/// made; a list that was given is one step.
 pub(crate) fn unload(alloc: Global, lists: &Lists, of: Datum) -> Result<ValueNode, AllocError>
     requires { reach of ≤ length lists.now }
     ensures { IfOk result (λ node. value_of node ≡ datum_value lists.now of) }

@@ -113,8 +113,8 @@ fn read_piece(file: &mut Option<File>, into: &mut [u8]) -> Got
     }
 }
 
-// Reads once from whatever can be read. What it is known to give is taken just as the answer says; where the read failed,
-// nothing is.
+// Reads once from whatever can be read. What it is known to give is taken just as the answer says; where the read
+// failed, nothing is.
 fn read_once<R: Read>(reader: &mut R, into: &mut [u8]) -> Got
     requires { 0 < length into.old }
     ensures some { GetsSome result into.new }

@@ -202,8 +202,8 @@ impl<W: Shared> Floor<W> {
         Pass { number, next, seat }
     }
 
-    /// Counts the entry that a turn has added, if it has added one, and goes on with the turn: the pass may add one entry
-    /// more, and no other pass has had a turn in between.
+    /// Counts the entry that a turn has added, if it has added one, and goes on with the turn: the pass may add one
+    /// entry more, and no other pass has had a turn in between.
     pub fn go_on(&self, turn: Turn<W>) -> Turn<W>
         requires of_floor { IsTurnOf self.now turn }
         requires start { W.start turn.work ≡ W.start (opened_work self.now) }

@@ -16,7 +16,8 @@ small-between true false = omega arith
 small-between false true = omega arith
 small-between false false = omega arith
 
-small-over : (more less : ℕ) (stars : List ℕ) → All IsSmall (map (λ star. count_in more star -ℤ count_in less star) stars)
+small-over : (more less : ℕ) (stars : List ℕ)
+    → All IsSmall (map (λ star. count_in more star -ℤ count_in less star) stars)
 small-over more less [] = All-nil IsSmall
 small-over more less (star ∷ stars) =
     All-cons IsSmall _ _ (small-between (more == star) (less == star)) (small-over more less stars)
@@ -50,7 +51,8 @@ block-at f w a (suc m) (suc i) j d wide below inside =
 pub counts-at : (n more less : ℕ) → more ≤ n → less ≤ n → (more * (n + 1) + less < length (all_counts n))
     × (get_or (all_counts n) (more * (n + 1) + less) [] ≡ counts n more less)
 counts-at n more less h i =
-    let at = block-at (counts_with n) (n + 1) 0 (n + 1) more less [] (λ k. length-map-range_with_len (counts n k) 0 (n + 1))
+    let at = block-at (counts_with n) (n + 1) 0 (n + 1) more less []
+    (λ k. length-map-range_with_len (counts n k) 0 (n + 1))
     (omega (arith, h)) (omega (arith, i)) in
     let own : 0 + more ≡ more = omega arith in (
       at.0,
@@ -84,10 +86,12 @@ push-range a zero = let first : a ≡ a + 0 = omega arith in ap (λ k. k ∷ [])
 push-range a (suc n) =
     let last : a + 1 + n ≡ a + suc n = omega arith in
     let one : suc n + 1 ≡ suc (n + 1) = omega arith in
-    ap (range_with_len a) one ∙ ap (λ ks. a ∷ ks) (push-range (a + 1) n ∙ ap (λ k. range_with_len (a + 1) n ++ k ∷ []) last)
+    ap (range_with_len a) one ∙ ap (λ ks. a ∷ ks) (push-range (a + 1) n ∙ ap (λ k. range_with_len (a + 1) n ++ k ∷ [])
+    last)
 
 pub blocks-more : {A : Type 0} (f : ℕ → List A) (n : ℕ) → flat_map f (range_with_len 0 n) ++ f n
     ≡ flat_map f (range_with_len 0 (n + 1))
 blocks-more f n =
     let last : n ≡ 0 + n = omega arith in
-    flat_map_more f [] (range_with_len 0 n) n ∙ ap (flat_map f) ((λ p. range_with_len 0 n ++ last p ∷ []) ∙ sym (push-range 0 n))
+    flat_map_more f [] (range_with_len 0 n) n ∙ ap (flat_map f) ((λ p. range_with_len 0 n ++ last p ∷ [])
+    ∙ sym (push-range 0 n))

@@ -12,7 +12,8 @@ use Rattle.nomos_forms.specs.declared.row.Row.{Row}
 use Rattle.nomos_forms.specs.declared.row_group.RowGroup.{RowGroup}
 
 -- the group itself
-group-more : (group more : RowGroup) (ls : List ℤ) → more.coefs ≡ group.coefs → more.leasts.items ≡ group.leasts.items ++ ls
+group-more : (group more : RowGroup) (ls : List ℤ) → more.coefs ≡ group.coefs → more.leasts.items ≡ group.leasts.items
+    ++ ls
     → group_rows more ≡ group_rows group ++ map (row_of more.coefs) ls
 group-more group more ls same is =
     (λ p. map (row_of (same p)) (is p)) ∙ map-append (row_of group.coefs) group.leasts.items ls
@@ -33,7 +34,8 @@ rows-last (g ∷ h ∷ gs) (suc k) more d ls last same is =
     ∙ sym (append_assoc (group_rows g) (rows_in (h ∷ gs)) (map (row_of more.coefs) ls))
 
 -- what is in front of two lists goes between them
-between : (new first rest all : List Row) → IsPermutation (new ++ rest) all → IsPermutation (new ++ (first ++ rest)) (first ++ all)
+between : (new first rest all : List Row) → IsPermutation (new ++ rest) all
+    → IsPermutation (new ++ (first ++ rest)) (first ++ all)
 between new first rest all h =
     subst (λ rows. IsPermutation rows (first ++ all)) (append_assoc new first rest)
     (IsPermutation-trans _ _ _ (IsPermutation-append_left rest _ _ (IsPermutation-append_comm new first))
@@ -48,7 +50,8 @@ rows-more [] k more d ls below same is = absurd (omega (arith, below))
 rows-more (g ∷ gs) zero more d ls below same is =
     let new = map (row_of more.coefs) ls in
     subst (λ rows. IsPermutation (new ++ rows_in (g ∷ gs)) (rows ++ rows_in gs)) (sym (group-more g more ls same is))
-    (subst (λ rows. IsPermutation rows ((group_rows g ++ new) ++ rows_in gs)) (append_assoc new (group_rows g) (rows_in gs))
+    (subst (λ rows. IsPermutation rows ((group_rows g ++ new) ++ rows_in gs))
+    (append_assoc new (group_rows g) (rows_in gs))
     (IsPermutation-append_left (rows_in gs) _ _ (IsPermutation-append_comm new (group_rows g))))
 rows-more (g ∷ gs) (suc k) more d ls below same is =
     between (map (row_of more.coefs) ls) (group_rows g) (rows_in gs) _
@@ -90,7 +93,8 @@ in-place (g ∷ gs) (suc k) d row below h =
 -- what holds of the rows of a group holds of each least with its coefficients, and the other way round
 pub all-leasts : (P : Row → Type 0) (group : RowGroup) → All P (group_rows group)
     → All (λ least. P (row_of group.coefs least)) group.leasts.items
-all-leasts P group all = λ k d below. subst P (get_or-map (row_of group.coefs) group.leasts.items k d (row_of group.coefs d) below)
+all-leasts P group all = λ k d below. subst P (get_or-map (row_of group.coefs) group.leasts.items k d
+    (row_of group.coefs d) below)
     (all k (row_of group.coefs d) (subst (λ n. k < n) (sym (length-map group.leasts.items (row_of group.coefs))) below))
 
 pub all-rows : (P : Row → Type 0) (group : RowGroup) → All (λ least. P (row_of group.coefs least)) group.leasts.items
@@ -114,7 +118,8 @@ in-one (g ∷ gs) row h = ⊎_elim
     (Contains-append_cases (group_rows g) (rows_in gs) row h)
 
 -- groups in another order have the same rows
-same-rows : (gs hs : List RowGroup) (row : Row) → IsPermutation gs hs → Contains (rows_in gs) row → Contains (rows_in hs) row
+same-rows : (gs hs : List RowGroup) (row : Row) → IsPermutation gs hs → Contains (rows_in gs) row
+    → Contains (rows_in hs) row
 same-rows gs hs row moved h =
     let one = in-one gs row h in
     let there = Contains-permutation gs hs one.0 moved one.1 in
@@ -127,15 +132,19 @@ same-permuted gs hs moved = λ row. (same-rows hs gs row (IsPermutation-sym gs h
 pub same-behind : (xs ys zs : List Row) → HasSame ys zs → HasSame (xs ++ ys) (xs ++ zs)
 same-behind xs ys zs same = λ row. (one xs ys zs row (same row).0, one xs zs ys row (same row).1)
   where
-    one : (xs ys zs : List Row) (row : Row) → (Contains ys row → Contains zs row) → Contains (xs ++ ys) row → Contains (xs ++ zs) row
-    one xs ys zs row f h = ⊎_elim (λ left. Contains-append_left xs zs row left) (λ right. Contains-append_right xs zs row (f right))
+    one : (xs ys zs : List Row) (row : Row) → (Contains ys row → Contains zs row) → Contains (xs ++ ys) row
+        → Contains (xs ++ zs) row
+    one xs ys zs row f h = ⊎_elim (λ left. Contains-append_left xs zs row left)
+        (λ right. Contains-append_right xs zs row (f right))
         (Contains-append_cases xs ys row h)
 
 pub same-front : (xs ys zs : List Row) → HasSame ys zs → HasSame (ys ++ xs) (zs ++ xs)
 same-front xs ys zs same = λ row. (one xs ys zs row (same row).0, one xs zs ys row (same row).1)
   where
-    one : (xs ys zs : List Row) (row : Row) → (Contains ys row → Contains zs row) → Contains (ys ++ xs) row → Contains (zs ++ xs) row
-    one xs ys zs row f h = ⊎_elim (λ left. Contains-append_left zs xs row (f left)) (λ right. Contains-append_right zs xs row right)
+    one : (xs ys zs : List Row) (row : Row) → (Contains ys row → Contains zs row) → Contains (ys ++ xs) row
+        → Contains (zs ++ xs) row
+    one xs ys zs row f h = ⊎_elim (λ left. Contains-append_left zs xs row (f left))
+        (λ right. Contains-append_right zs xs row right)
         (Contains-append_cases ys xs row h)
 
 -- a group with the same leasts in another order
@@ -148,7 +157,8 @@ same-group group other coefs leasts = λ row. (
 )
 
 -- the coefficients of a row are those of its group
-pub coefs-in : (groups : List RowGroup) (row : Row) → Contains (rows_in groups) row → Contains (coefs_of groups) row.coefs
+pub coefs-in : (groups : List RowGroup) (row : Row) → Contains (rows_in groups) row
+    → Contains (coefs_of groups) row.coefs
 coefs-in groups row h =
     let one = in-one groups row h in
     let place = one.1 in (

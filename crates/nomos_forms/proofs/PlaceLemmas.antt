@@ -13,7 +13,8 @@ use Rattle.nomos_forms.specs.declared.row.Row.{Row}
 use Rattle.nomos_forms.specs.declared.row_group.RowGroup.{RowGroup}
 
 -- the number of rows, the first group's apart
-rows-first : (g : RowGroup) (gs : List RowGroup) → length (rows_in (g ∷ gs)) ≡ length g.leasts.items + length (rows_in gs)
+rows-first : (g : RowGroup) (gs : List RowGroup) → length (rows_in (g ∷ gs)) ≡ length g.leasts.items + length
+    (rows_in gs)
 rows-first g gs = length-append (group_rows g) (rows_in gs)
     ∙ ap (λ k. k + length (rows_in gs)) (length-map g.leasts.items (row_of g.coefs))
 
@@ -32,7 +33,8 @@ end-at n (g ∷ gs) (suc k) d below =
     omega (arith, rest, first)
 
 -- the last one behind all rows
-pub last-end : (n : ℕ) (gs : List RowGroup) (k : ℕ) → k + 1 ≡ length gs → get_or (ends_after n gs) k 0 ≡ n + length (rows_in gs)
+pub last-end : (n : ℕ) (gs : List RowGroup) (k : ℕ) → k + 1 ≡ length gs
+    → get_or (ends_after n gs) k 0 ≡ n + length (rows_in gs)
 last-end n [] k last = absurd (omega (arith, last))
 last-end n (g ∷ []) zero last = omega (arith, rows-first g [])
 last-end n (g ∷ []) (suc k) last = absurd (omega (arith, last))
@@ -100,22 +102,26 @@ place-of gs place k at inside = (
 )
   where
     below : k < length gs
-    below = ⊎_elim (λ lt. lt) (λ le. absurd (omega (arith, inside, at.start, ap (λ xs. length (rows_in xs)) (take_all k gs le))))
+    below = ⊎_elim (λ lt. lt)
+        (λ le. absurd (omega (arith, inside, at.start, ap (λ xs. length (rows_in xs)) (take_all k gs le))))
         (cases_lt k (length gs))
 
 -- one group more
 pub ends-more : (n : ℕ) (gs : List RowGroup) (g : RowGroup) → ends_after n (gs ++ g ∷ [])
     ≡ ends_after n gs ++ (n + length (rows_in gs) + length g.leasts.items) ∷ []
-ends-more n [] g = let same : n + length g.leasts.items ≡ n + length (rows_in []) + length g.leasts.items = omega arith in
+ends-more n [] g = let same : n + length g.leasts.items ≡ n + length (rows_in []) + length g.leasts.items =
+    omega arith in
     ap (λ end. end ∷ []) same
 ends-more n (h ∷ hs) g =
     let first = rows-first h hs in
     let same : n + length h.leasts.items + length (rows_in hs) + length g.leasts.items
     ≡ n + length (rows_in (h ∷ hs)) + length g.leasts.items = omega (arith, first) in
     ap (λ ends. (n + length h.leasts.items) ∷ ends)
-    (ends-more (n + length h.leasts.items) hs g ∙ ap (λ end. ends_after (n + length h.leasts.items) hs ++ end ∷ []) same)
+    (ends-more (n + length h.leasts.items) hs g ∙ ap (λ end. ends_after (n + length h.leasts.items) hs ++ end ∷ [])
+    same)
 
-pub end-of : (ends : List ℕ) (groups : List RowGroup) (k : ℕ) (d : RowGroup) → ends ≡ ends_after 0 groups → k < length groups
+pub end-of : (ends : List ℕ) (groups : List RowGroup) (k : ℕ) (d : RowGroup) → ends ≡ ends_after 0 groups
+    → k < length groups
     → get_or ends k 0 ≡ length (rows_in (take k groups)) + length (get_or groups k d).leasts.items
 end-of ends groups k d same below = ap (λ xs. get_or xs k 0) same ∙ end-at 0 groups k d below
     ∙ ap (λ n. n + length (get_or groups k d).leasts.items) (start (length (rows_in (take k groups))))

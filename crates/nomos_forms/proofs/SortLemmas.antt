@@ -38,10 +38,15 @@ is_there (Some x) = true
 
 pub last-ends : {X : Type 0} (xs : List X) (x : X) → last_of xs ≡ Some x → EndsIn xs x
 last-ends [] x is = absurd (false≢true (ap is_there is))
-last-ends (y ∷ ys) x is = (omega arith, same_Some _ _ (sym (last-at (y ∷ ys) (length (y ∷ ys) - 1) x (omega arith)) ∙ is))
+last-ends (y ∷ ys) x is = (
+  omega arith,
+  same_Some _ _ (sym (last-at (y ∷ ys) (length (y ∷ ys) - 1) x (omega arith))
+      ∙ is),
+)
 
 -- ---- properties of each item
-all-push : {X : Type 0} (P : X → Type 0) (xs ys : List X) → AllByRecursion P xs → AllByRecursion P ys → AllByRecursion P (xs ++ ys)
+all-push : {X : Type 0} (P : X → Type 0) (xs ys : List X) → AllByRecursion P xs → AllByRecursion P ys
+    → AllByRecursion P (xs ++ ys)
 all-push P [] ys h i = i
 all-push P (x ∷ xs) ys h i = (h.0, all-push P xs ys h.1 i)
 
@@ -56,15 +61,20 @@ unfolding IsStrictlySortedBy
 strict-push R o [] y s h = (tt, tt)
 strict-push R o (x ∷ []) y s h = ((h x refl, tt), (tt, tt))
 strict-push R o (x ∷ z ∷ zs) y s h =
-    let rest = strict-push R o (z ∷ zs) y s.1 h in
-    (all-push (λ w. R x w ≡ Less) (z ∷ zs) (y ∷ []) s.0 (o.trans x z y s.0.0 (all-middle (λ w. R z w ≡ Less) zs y [] rest.0), tt), rest)
+    let rest = strict-push R o (z ∷ zs) y s.1 h in (
+      all-push (λ w. R x w ≡ Less) (z ∷ zs) (y ∷ []) s.0
+          (o.trans x z y s.0.0 (all-middle (λ w. R z w ≡ Less) zs y [] rest.0), tt),
+      rest,
+    )
 
-pub strict-append : {X : Type 0} (R : X → X → Ordering) (xs ys : List X) → IsStrictlySortedBy R xs → IsStrictlySortedBy R ys
+pub strict-append : {X : Type 0} (R : X → X → Ordering) (xs ys : List X) → IsStrictlySortedBy R xs
+    → IsStrictlySortedBy R ys
     → ((x y : X) → Contains xs x → Contains ys y → R x y ≡ Less) → IsStrictlySortedBy R (xs ++ ys)
 unfolding IsStrictlySortedBy
 strict-append R [] ys s t h = t
 strict-append R (x ∷ xs) ys s t h = (
-  all-push (λ y. R x y ≡ Less) xs ys s.0 (recursion_from_All (λ y. R x y ≡ Less) ys (All-weaker (Contains ys) (λ y. R x y ≡ Less)
+  all-push (λ y. R x y ≡ Less) xs ys s.0 (recursion_from_All (λ y. R x y ≡ Less) ys
+      (All-weaker (Contains ys) (λ y. R x y ≡ Less)
       (λ y i. h x y (0, omega arith, refl) i) ys (All-contains_itself ys))),
   strict-append R xs ys s.1 t (λ a b i j. h a b (Contains-append_right (x ∷ []) xs a i) j),
 )

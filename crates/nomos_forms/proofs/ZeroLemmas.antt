@@ -17,7 +17,8 @@ nothing (suc first) zero = refl
 nothing (suc first) (suc count) = refl
 
 -- two lists whose first numbers are the same
-same-first : (x y : ℤ) (xs ys : List ℤ) → x ≡ pos 0 → y ≡ pos 0 → slice_cmp int_cmp (x ∷ xs) (y ∷ ys) ≡ slice_cmp int_cmp xs ys
+same-first : (x y : ℤ) (xs ys : List ℤ) → x ≡ pos 0 → y ≡ pos 0
+    → slice_cmp int_cmp (x ∷ xs) (y ∷ ys) ≡ slice_cmp int_cmp xs ys
 same-first x y xs ys left right = λ p. ordering_then (int_cmp (left p) (right p)) (slice_cmp int_cmp xs ys)
 
 pub cmp-between : (first count : ℕ) (xs ys : List ℤ) → length xs ≡ length ys → Before first xs → Before first ys

@@ -51,7 +51,8 @@ fn add_sorted(groups: &mut Vec<RowGroup>, group: RowGroup) -> Result<(), AllocEr
     requires behind { (row other : Row) → Contains (rows_in groups.old.items) row →
         Contains (group_rows group) other → row_cmp row other ≡ Less }
     ensures ascend { IfOk result (λ _. IsStrictlySortedBy row_cmp (rows_in groups.new.items)) }
-    ensures same { IfOk result (λ _. HasSame (rows_in groups.new.items) (rows_in groups.old.items ++ group_rows group)) }
+    ensures same { IfOk result (λ _. HasSame (rows_in groups.new.items)
+        (rows_in groups.old.items ++ group_rows group)) }
 {
     let RowGroup { coefs, mut leasts } = group;
     if leasts.is_empty() {

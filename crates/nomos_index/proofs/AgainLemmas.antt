@@ -21,7 +21,8 @@ use Rattle.nomos_index.proofs.TogetherLemmas.{marked-holding, marked-same, same-
 module _ (s : Inside) (objects : Marking (Slot Kept)) (values : Shelving (VarId × Value))
     (its_lists : Shelving (VarId × PotentialList)) (channels : Marking Cell) (numbers : Numbers)
     (o : objects.marked ≡ s.contents.objects.marked) (v : values.marked ≡ s.contents.values.marked)
-    (l : its_lists.marked ≡ s.contents.lists.marked) (c : HaveSameNames s.contents.channels.marked channels.marked) where
+    (l : its_lists.marked ≡ s.contents.lists.marked)
+    (c : HaveSameNames s.contents.channels.marked channels.marked) where
   abbrev pub contents_again : Columns
   contents_again = record s.contents {
     objects = objects;
@@ -83,8 +84,10 @@ module _ (s : Inside) (channels : Marking Cell)
     drawn = refl;
   })
 
-  pub moved-marks : option_map state_of (held_marked moved s.marked) ≡ option_map state_of (held_marked s.contents s.marked)
-  moved-marks = marks-again s s.contents.objects s.contents.values s.contents.lists channels s.contents.numbers refl refl refl c
+  pub moved-marks : option_map state_of (held_marked moved s.marked) ≡ option_map state_of
+      (held_marked s.contents s.marked)
+  moved-marks = marks-again s s.contents.objects s.contents.values s.contents.lists channels s.contents.numbers refl
+      refl refl c
 
 -- ---- rows that are kept elsewhere
 
@@ -113,7 +116,8 @@ module _ (s : Inside) (values : Shelving (VarId × Value)) (its_lists : Shelving
   pub resting-indexed : (room : ℕ) → IsIndexed s → room ≤ s.room → room ≤ values.room → room ≤ its_lists.room
       → IsIndexed (record s { contents = resting; room = room })
   resting-indexed room is less has has_lists =
-      indexed-again s s.contents.objects values its_lists s.contents.channels s.contents.numbers refl v l same_cells room
+      indexed-again s s.contents.objects values its_lists s.contents.channels s.contents.numbers refl v l same_cells
+      room
       is
       (subst IsHolding (sym resting-held) is.now)
       (record {

@@ -50,7 +50,8 @@ module _ (s : Inside) (is : IsIndexed s) (born : Newborn) (k : KeptProcess) (spa
 
   abbrev born_after : Columns
   born_after =
-      coming_after s is born.fields.pid (kept.Process k) born.values.items born.lists.items objects values its_lists after o v l
+      coming_after s is born.fields.pid (kept.Process k) born.values.items born.lists.items objects values its_lists
+      after o v l
       its_marks
 
   -- just the pairs are its channels
@@ -60,7 +61,8 @@ module _ (s : Inside) (is : IsIndexed s) (born : Newborn) (k : KeptProcess) (spa
       ∙ name-own born.fields.pid w born.channels.items (name_in reserved.now born.fields.pid w)
       (names born.fields.pid w ∙ next-unnamed (held_now s.contents) is.now born.fields.pid w next)
 
-  born-comes : ObjectComes (held_now s.contents) (held_now born_after) born.fields.pid (kept.Process k) born.values.items
+  born-comes : ObjectComes (held_now s.contents) (held_now born_after) born.fields.pid (kept.Process k)
+      born.values.items
       born.lists.items
   born-comes = record {
     is_next = next;
@@ -88,7 +90,8 @@ module _ (s : Inside) (is : IsIndexed s) (born : Newborn) (k : KeptProcess) (spa
 
   pub born-indexed : HasRoom born_after (s.room - 1) → IsIndexed (record s { contents = born_after; room = s.room - 1 })
   born-indexed has =
-      come-indexed s is born.fields.pid (kept.Process k) born.values.items born.lists.items objects values its_lists after o v l
+      come-indexed s is born.fields.pid (kept.Process k) born.values.items born.lists.items objects values its_lists
+      after o v l
       its_marks born-comes has
 
   pub born-state : state_of (held_now born_after)
@@ -100,13 +103,15 @@ module _ (s : Inside) (is : IsIndexed s) (born : Newborn) (k : KeptProcess) (spa
       born.lists.items born-comes
       ∙ ap (λ (n : KeptProcess). with_object (object.Process (held n (channels_of after.now born.fields.pid)))
       (state_of (held_now s.contents))) fields
-      ∙ ap (λ (channels : List (VarId × ℕ)). with_object (object.Process (held (kept_of born.fields span ascends) channels))
+      ∙ ap (λ (channels : List (VarId × ℕ)). with_object
+      (object.Process (held (kept_of born.fields span ascends) channels))
       (state_of (held_now s.contents))) its_channels
 
   pub born-marks : option_map state_of (held_marked born_after s.marked)
       ≡ option_map state_of (held_marked s.contents s.marked)
   born-marks =
       marks-again s objects values its_lists after
-      (drawn_next s is born.fields.pid (kept.Process k) born.values.items born.lists.items objects values its_lists after o v l
+      (drawn_next s is born.fields.pid (kept.Process k) born.values.items born.lists.items objects values its_lists
+      after o v l
       its_marks)
       o v l its_marks

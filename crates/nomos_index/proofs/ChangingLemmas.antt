@@ -39,7 +39,8 @@ module _ (s : Inside) (is : IsIndexed s) (pid place : ℕ) (k : KeptProcess)
 
   -- what is not changed, as a change
   pub same_slots : s.contents.objects.now ≡ put_at s.contents.objects.now place (Some (kept.Process k))
-  same_slots = sym (put_at-own s.contents.objects.now place _ (slot-kept s.contents.objects.now place pid (kept.Process k) at.at))
+  same_slots = sym (put_at-own s.contents.objects.now place _
+      (slot-kept s.contents.objects.now place pid (kept.Process k) at.at))
 
   same_values : s.contents.values.now ≡ slice_set s.contents.values.now place values_row
   same_values = sym (set-get_or s.contents.values.now place [])
@@ -62,7 +63,8 @@ module _ (s : Inside) (is : IsIndexed s) (pid place : ℕ) (k : KeptProcess)
 
   module _ (objects : Marking (Slot Kept)) (next : KeptProcess)
       (now : objects.now ≡ put_at s.contents.objects.now place (Some (kept.Process next))) (span : next.span ≡ k.span)
-      (order : next.ascends ≡ k.ascends) (marked : objects.marked ≡ s.contents.objects.marked) (room : s.contents.objects.room ≤ objects.room) where
+      (order : next.ascends ≡ k.ascends) (marked : objects.marked ≡ s.contents.objects.marked)
+      (room : s.contents.objects.room ≤ objects.room) where
     abbrev pub with_objects : Columns
     with_objects = record s.contents { objects = objects }
 
@@ -87,7 +89,8 @@ module _ (s : Inside) (is : IsIndexed s) (pid place : ℕ) (k : KeptProcess)
 
     pub fields-indexed : IsIndexed (record s { contents = with_objects })
     fields-indexed =
-        indexed-again s objects s.contents.values s.contents.lists s.contents.channels s.contents.numbers marked refl refl
+        indexed-again s objects s.contents.values s.contents.lists s.contents.channels s.contents.numbers marked refl
+        refl
         same_cells s.room is
         (process-holding (held_now s.contents) (held_now with_objects) is.now pid place k next values_row lists_row at
         fields-come fields_span fields_order)
@@ -157,7 +160,9 @@ module _ (s : Inside) (is : IsIndexed s) (pid place : ℕ) (k : KeptProcess)
         process-becomes (held_now s.contents) (held_now with_cells) is.now pid place k spanning values_row lists_row at
         channels-come spans own_order f
         (same
-        ∙ ap (λ (c : List (VarId × ℕ)). record (process_held s.contents.channels.now pid values_row lists_row k) { channels = c })
+        ∙ ap (λ (c : List (VarId × ℕ)). record (process_held s.contents.channels.now pid values_row lists_row k) {
+          channels = c;
+        })
         (sym bound))
 
   -- ---- other channels, of variables that had some
@@ -183,7 +188,8 @@ module _ (s : Inside) (is : IsIndexed s) (pid place : ℕ) (k : KeptProcess)
 
   -- ---- other values, of which it is kept whether they ascend, and other lists
 
-  module _ (objects : Marking (Slot Kept)) (values : Shelving (VarId × Value)) (its_lists : Shelving (VarId × PotentialList))
+  module _ (objects : Marking (Slot Kept)) (values : Shelving (VarId × Value))
+      (its_lists : Shelving (VarId × PotentialList))
       (ascends : Bool) (row : ValueRow) (list_row : ListRow) (room : ℕ)
       (now : objects.now ≡ put_at s.contents.objects.now place (Some (kept.Process (record k { ascends = ascends }))))
       (rows : values.now ≡ slice_set s.contents.values.now place row)
@@ -213,7 +219,8 @@ module _ (s : Inside) (is : IsIndexed s) (pid place : ℕ) (k : KeptProcess)
 
     pub rows-indexed : IsIndexed (record s { contents = with_rows; room = room })
     rows-indexed =
-        indexed-again s objects values its_lists s.contents.channels s.contents.numbers also marked its_marked same_cells
+        indexed-again s objects values its_lists s.contents.channels s.contents.numbers also marked its_marked
+        same_cells
         room is
         (process-holding (held_now s.contents) (held_now with_rows) is.now pid place k ordered row list_row at rows-come
         own_spans order)
@@ -235,7 +242,8 @@ module _ (s : Inside) (is : IsIndexed s) (pid place : ℕ) (k : KeptProcess)
 
   -- the values alone, where they ascend if they did
 
-  module _ (values : Shelving (VarId × Value)) (row : ValueRow) (now : values.now ≡ slice_set s.contents.values.now place row)
+  module _ (values : Shelving (VarId × Value)) (row : ValueRow)
+      (now : values.now ≡ slice_set s.contents.values.now place row)
       (order : AscendsIf k.ascends row) (marked : values.marked ≡ s.contents.values.marked)
       (less : s.contents.values.room ≤ values.room + 1) where
     pub values-indexed : IsIndexed (record s { contents = record s.contents { values = values }; room = s.room - 1 })

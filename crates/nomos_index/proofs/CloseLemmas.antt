@@ -53,7 +53,8 @@ module _ {X R : Type 0} where
 module _ (cells : List Cell) where
   objects-filled : (slots : List (Slot Kept)) (vs : List ValueRow) (ls : List ListRow) → length vs ≡ length slots
       → length ls ≡ length slots
-      → objects_of cells (filled slots) (close_rows zero slots vs) (close_rows zero slots ls) ≡ objects_of cells slots vs ls
+      → objects_of cells (filled slots) (close_rows zero slots vs) (close_rows zero slots ls) ≡ objects_of cells slots
+      vs ls
   objects-filled [] vs ls long also = refl
   objects-filled (s ∷ slots) [] ls long also = absurd (omega arith)
   objects-filled (s ∷ slots) (v ∷ vs) [] long also = absurd (omega arith)
@@ -74,7 +75,8 @@ module _ (cells : List Cell) where
 
       at : (item : Option Kept) → objects_of cells (filled slots) (close_rows zero slots vs) (close_rows zero slots ls)
           ≡ objects_of cells slots vs ls
-          → objects_of cells (cond (is_some item) (record { number = s.number; item = item } ∷ filled slots) (filled slots))
+          → objects_of cells (cond (is_some item) (record { number = s.number; item = item } ∷ filled slots)
+          (filled slots))
           (cond (is_some item) (v ∷ close_rows zero slots vs) (close_rows zero slots vs))
           (cond (is_some item) (l ∷ close_rows zero slots ls) (close_rows zero slots ls))
           ≡ option_to_list (option_map (object_of cells s.number v l) item) ++ objects_of cells slots vs ls
@@ -192,7 +194,8 @@ module _ (h : Holding) (from : ℕ) where
   }
 
 pub objects_closed-is : (h : Holding) (from : ℕ) (slots : List (Slot Kept)) (vs : List ValueRow) (ls : List ListRow)
-    → slots ≡ close_gaps from h.slots → vs ≡ close_rows from h.slots h.value_rows → ls ≡ close_rows from h.slots h.list_rows
+    → slots ≡ close_gaps from h.slots → vs ≡ close_rows from h.slots h.value_rows
+    → ls ≡ close_rows from h.slots h.list_rows
     → objects_closed h from ≡ record h { slots = slots; value_rows = vs; list_rows = ls }
 objects_closed-is h from slots vs ls is_slots is_values is_lists =
     let With : List (Slot Kept) → List ValueRow → List ListRow → Holding = λ s v l.

@@ -37,7 +37,8 @@ use Rattle.nomos_index.proofs.TogetherLemmas.{same-names}
 -- ---- one more slot
 
 -- the objects, where no cell changes
-objects-append : (cells : List Cell) (slots : List (Slot Kept)) (vs : List ValueRow) (ls : List ListRow) (n : ℕ) (k : Kept)
+objects-append : (cells : List Cell) (slots : List (Slot Kept)) (vs : List ValueRow) (ls : List ListRow) (n : ℕ)
+    (k : Kept)
     (v : ValueRow) (l : ListRow) → length vs ≡ length slots → length ls ≡ length slots
     → objects_of cells (slots ++ (record { number = n; item = Some k }) ∷ []) (vs ++ v ∷ []) (ls ++ l ∷ [])
     ≡ objects_of cells slots vs ls ++ object_of cells n v l k ∷ []
@@ -119,7 +120,8 @@ module _ (before after : Holding) (is : IsHolding before) (n : ℕ) (k : Kept) (
   objects-come =
       ap (λ slots. objects_of after.cells slots after.value_rows after.list_rows) comes.slots
       ∙ ap (λ rows. objects_of after.cells (before.slots ++ slot ∷ []) rows after.list_rows) comes.value_rows
-      ∙ ap (λ rows. objects_of after.cells (before.slots ++ slot ∷ []) (before.value_rows ++ v ∷ []) rows) comes.list_rows
+      ∙ ap (λ rows. objects_of after.cells (before.slots ++ slot ∷ []) (before.value_rows ++ v ∷ []) rows)
+      comes.list_rows
       ∙ objects-append after.cells before.slots before.value_rows before.list_rows n k v l is.value_rows is.list_rows
       ∙ ap (λ os. os ++ object_of after.cells n v l k ∷ [])
       (objects-apart before.cells after.cells n comes.others before.slots before.value_rows before.list_rows
@@ -157,7 +159,8 @@ module _ (before after : Holding) (is : IsHolding before) (n : ℕ) (k : Kept) (
       let next : after.drawn.next_object ≡ n + 1 =
       ap (λ (d : Numbers). d.next_object) comes.drawn ∙ ap (λ i. i + 1) (sym comes.is_next) in
       record {
-        value_rows = ap length comes.value_rows ∙ length-append before.value_rows (v ∷ []) ∙ ap (λ i. i + 1) is.value_rows
+        value_rows = ap length comes.value_rows ∙ length-append before.value_rows (v ∷ [])
+            ∙ ap (λ i. i + 1) is.value_rows
             ∙ sym long;
         list_rows = ap length comes.list_rows ∙ length-append before.list_rows (l ∷ []) ∙ ap (λ i. i + 1) is.list_rows
             ∙ sym long;
@@ -206,7 +209,8 @@ module _ (s : Inside) (is : IsIndexed s) (n : ℕ) (k : KeptMessage) (row : Valu
     (l : its_lists.marked ≡ s.contents.lists.marked) (next : n ≡ s.contents.numbers.next_object)
     (brings : k.brings ≡ seen.Value → 1 ≤ length row)
     (slots : objects.now ≡ s.contents.objects.now ++ (record { number = n; item = Some (kept.Message k) }) ∷ [])
-    (rows : values.now ≡ s.contents.values.now ++ row ∷ []) (list_rows : its_lists.now ≡ s.contents.lists.now ++ [] ∷ [])
+    (rows : values.now ≡ s.contents.values.now ++ row ∷ []) (list_rows : its_lists.now ≡ s.contents.lists.now ++ []
+    ∷ [])
   where
     abbrev message_after : Columns
     message_after =

@@ -25,7 +25,8 @@ holding-drawn h next_object next_name is object name = record {
   held = is.held;
 }
 
-module _ (s : Inside) (is : IsIndexed s) (next_object next_name : ℕ) (object : s.contents.numbers.next_object ≤ next_object)
+module _ (s : Inside) (is : IsIndexed s) (next_object next_name : ℕ)
+    (object : s.contents.numbers.next_object ≤ next_object)
     (name : s.contents.numbers.next_name ≤ next_name) where
   abbrev pub drawn_up : Inside
   drawn_up = record s {

@@ -44,4 +44,5 @@ found-kept h is place n m k at holds =
     number-kept s None is holds =
         absurd (none-some (m, k) (sym (ap (option_map (λ k. (s.number, k))) is) ∙ holds))
     number-kept s (Some q) is holds =
-        ap (λ (e : ℕ × Kept). e.0) (same_Some (m, k) (s.number, q) (sym holds ∙ ap (option_map (λ k. (s.number, k))) is))
+        ap (λ (e : ℕ × Kept). e.0) (same_Some (m, k) (s.number, q)
+        (sym holds ∙ ap (option_map (λ k. (s.number, k))) is))

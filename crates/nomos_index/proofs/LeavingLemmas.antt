@@ -52,7 +52,8 @@ module _ (s : Inside) (is : IsIndexed s) (number place : ℕ) (k : Kept)
     (slots : objects.now ≡ put_at s.contents.objects.now place None)
     (rows : values.now ≡ slice_set s.contents.values.now place [])
     (list_rows : its_lists.now ≡ slice_set s.contents.lists.now place [])
-    (names : (p w : ℕ) → name_in channels.now p w ≡ cond (eqb number p) None (name_in s.contents.channels.now p w)) where
+    (names : (p w : ℕ) → name_in channels.now p w ≡ cond (eqb number p) None
+    (name_in s.contents.channels.now p w)) where
   abbrev after : Columns
   after = contents_again s objects values its_lists channels s.contents.numbers o v l c
 

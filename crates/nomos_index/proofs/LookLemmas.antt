@@ -156,7 +156,8 @@ module _ (cells : List Cell) where
       Over : List Object → Type 0
       Over objects = AllByRecursion (λ n. nat_cmp least n ≡ Less) (map object_number objects)
 
-      at : (item : Option Kept) → Over rest → Over (option_to_list (option_map (object_of cells s.number v l) item) ++ rest)
+      at : (item : Option Kept) → Over rest → Over (option_to_list (option_map (object_of cells s.number v l) item)
+          ++ rest)
       at None further = further
       at (Some k) further = (ap (nat_cmp least) (number-own cells s.number v l k) ∙ over.0, further)
 
@@ -193,7 +194,8 @@ state-in_order h is = objects-in_order h.cells h.slots h.value_rows h.list_rows 
 -- what stands at a place, by the slot there
 pub standing-is : (h : Holding) (place : ℕ) (s : Slot Kept) → slice_get h.slots place ≡ Some s
     → standing_at h place
-    ≡ option_map (object_of h.cells s.number (slice_index_or h.value_rows place []) (slice_index_or h.list_rows place []))
+    ≡ option_map (object_of h.cells s.number (slice_index_or h.value_rows place [])
+    (slice_index_or h.list_rows place []))
     s.item
 standing-is h place s at =
     ap (λ (o : Option (Slot Kept)). o >>= kept_in >>= shown) at ∙ mapped s.item
@@ -236,7 +238,8 @@ pub record Stands (h : Holding) (number : ℕ) (o : Object) : Type 0 where
   pub place : ℕ
   pub kept : Kept
   pub at : slice_get h.slots place ≡ Some (record { number = number; item = Some kept })
-  pub is : o ≡ object_of h.cells number (slice_index_or h.value_rows place []) (slice_index_or h.list_rows place []) kept
+  pub is : o ≡ object_of h.cells number (slice_index_or h.value_rows place []) (slice_index_or h.list_rows place [])
+      kept
 
 pub object-stands : (h : Holding) → IsHolding h → (n : ℕ) (o : Object) → object_at (state_of h).objects n ≡ Some o
     → Stands h n o
@@ -254,7 +257,8 @@ object-stands h is n o found =
 
     by_item : (place : ℕ) (s : Slot Kept) → s.number ≡ n → slice_get h.slots place ≡ Some s → (item : Option Kept)
         → s.item ≡ item
-        → option_map (object_of h.cells s.number (slice_index_or h.value_rows place []) (slice_index_or h.list_rows place []))
+        → option_map (object_of h.cells s.number (slice_index_or h.value_rows place [])
+        (slice_index_or h.list_rows place []))
         s.item ≡ Some o
         → Stands h n o
     by_item place s same stands None none found =
@@ -278,7 +282,8 @@ pub record ProcessStands (h : Holding) (pid : ℕ) (p : Process) : Type 0 where
   pub place : ℕ
   pub holds : KeptProcess
   pub at : slice_get h.slots place ≡ Some (record { number = pid; item = Some (kept.Process holds) })
-  pub is : p ≡ process_held h.cells pid (slice_index_or h.value_rows place []) (slice_index_or h.list_rows place []) holds
+  pub is : p ≡ process_held h.cells pid (slice_index_or h.value_rows place []) (slice_index_or h.list_rows place [])
+      holds
 
 pub process-stands : (h : Holding) → IsHolding h → (pid : ℕ) (p : Process) → process_at (state_of h) pid ≡ Some p
     → ProcessStands h pid p
@@ -373,6 +378,7 @@ types-found (s ∷ names) n order =
     here (Some t) same = type_of-first (s.number, t) (types_of names) n same
 
     further : (item : Option TypeId) → s.number ≢ n
-        → type_of (option_to_list (option_map (λ t. (s.number, t)) item) ++ types_of names) n ≡ type_of (types_of names) n
+        → type_of (option_to_list (option_map (λ t. (s.number, t)) item) ++ types_of names) n ≡ type_of (types_of names)
+        n
     further None other = refl
     further (Some t) other = type_of-further (s.number, t) (types_of names) n other

@@ -24,7 +24,8 @@ used-twice : (b : List (VarId × ℕ)) (v w name : ℕ) → w ≢ v → bound_to
     → 2 ≤ count_of name (map (λ e. e.1) b)
 used-twice b v w name other first second =
     let here = ap (λ (o : Option ℕ). count_of name (option_to_list o)) first in
-    let there = ap (λ (o : Option ℕ). count_of name (option_to_list o)) (bound-after_unbind_other w v b other ∙ second) in
+    let there = ap (λ (o : Option ℕ). count_of name (option_to_list o)) (bound-after_unbind_other w v b other
+    ∙ second) in
     omega (
       arith,
       count-after_unbind name v b,

@@ -20,7 +20,8 @@ pub name-more : (process p v : ℕ) (pair : VarId × ℕ) (pairs : List (VarId �
 name-more process p v pair pairs old =
     more-cases (eqb process p) (eqb pair.0.0 v) pair.1 (bound_to v pairs) old
 
-pub name-next : (process p v : ℕ) (pairs : List (VarId × ℕ)) (at : ℕ) (d : VarId × ℕ) (old : Option ℕ) → at < length pairs
+pub name-next : (process p v : ℕ) (pairs : List (VarId × ℕ)) (at : ℕ) (d : VarId × ℕ) (old : Option ℕ)
+    → at < length pairs
     → cond (eqb process p && eqb (get_or pairs at d).0.0 v) (Some (get_or pairs at d).1)
     (name_with process (drop (at + 1) pairs) p v old)
     ≡ name_with process (drop at pairs) p v old

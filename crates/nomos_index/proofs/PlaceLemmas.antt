@@ -90,7 +90,8 @@ module _ (before after : List Cell) (n : ℕ) (others : (p v : ℕ) → p ≢ n 
       let new = object_in after n v l item in
       ap (λ os. option_to_list (object_in after e.number w m e.item) ++ os)
       (objects-put slots vs ls place k item v l (omega arith) (omega arith) (slots-tail e slots order) at)
-      ∙ ap (λ o. option_to_list o ++ change.put_at n new (objects_of before slots vs ls)) (object-apart e.number w m e.item other)
+      ∙ ap (λ o. option_to_list o ++ change.put_at n new (objects_of before slots vs ls))
+      (object-apart e.number w m e.item other)
       ∙ sym (put-further new e.number e.item w m (objects_of before slots vs ls) other)
     where
       lower-at : (among : List (Slot Kept)) (p : ℕ) → AllOver e.number among
@@ -114,7 +115,8 @@ module _ (h : Holding) (is : IsHolding h) (place n : ℕ) (k : Kept) (item : Opt
       ≡ record (state_of h) { objects = change.put_at n (object_in cells n v l item) (state_of h).objects }
   state-placed =
       ap (λ (os : List Object). record (state_of h) { objects = os })
-      (objects-put h.cells cells n can.others h.slots h.value_rows h.list_rows place k item v l is.value_rows is.list_rows
+      (objects-put h.cells cells n can.others h.slots h.value_rows h.list_rows place k item v l is.value_rows
+      is.list_rows
       is.ascending can.stood)
 
   within : place < length h.value_rows
@@ -129,7 +131,8 @@ module _ (h : Holding) (is : IsHolding h) (place n : ℕ) (k : Kept) (item : Opt
             ap (slice_get (put_at h.slots place item)) same ∙ get-put_at h.slots place _ item can.stood in
             let item_is : item ≡ slot.item = ap (λ (s : Slot Kept). s.item) (same_Some _ slot (sym own ∙ at)) in
             let row : v ≡ slice_index_or (set h.value_rows place v) other [] =
-            sym (ap (λ i. slice_index_or (set h.value_rows place v) i []) same ∙ get_or-set_same h.value_rows place v [] within) in
+            sym (ap (λ i. slice_index_or (set h.value_rows place v) i []) same ∙ get_or-set_same h.value_rows place v []
+            within) in
             subst (λ i. FitsRow i (slice_index_or (set h.value_rows place v) other [])) item_is
             (subst (FitsRow item) row can.fits)
         | inr apart ↦
@@ -195,5 +198,8 @@ module _ (before after : Holding) (is : IsHolding before) (place n : ℕ) (k : K
   comes-holding = subst IsHolding after-is (holding-placed before is place n k item v l after.cells can)
 
   pub comes-state : state_of after
-      ≡ record (state_of before) { objects = change.put_at n (object_in after.cells n v l item) (state_of before).objects }
+      ≡ record (state_of before) {
+        objects = change.put_at n (object_in after.cells n v l item)
+            (state_of before).objects;
+      }
   comes-state = ap state_of (sym after-is) ∙ state-placed before is place n k item v l after.cells can

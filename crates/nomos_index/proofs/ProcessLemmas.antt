@@ -33,7 +33,8 @@ slot-kept slots place n k kept = at (slice_get slots place) refl
     by_item s (Some q) some stands =
         let pair : (s.number, q) ≡ (n, k) =
         same_Some (s.number, q) (n, k)
-        (sym (ap (λ (o : Option (Slot Kept)). o >>= kept_in) stands ∙ ap (option_map (λ k. (s.number, k))) some) ∙ kept) in
+        (sym (ap (λ (o : Option (Slot Kept)). o >>= kept_in) stands ∙ ap (option_map (λ k. (s.number, k))) some)
+        ∙ kept) in
         let slot : ℕ → Option Kept → Option (Slot Kept) = λ i item. Some (record { number = i; item = item }) in
         stands
         ∙ ap (slot s.number) some

@@ -131,7 +131,8 @@ brings-instead old new (seen.Channel name) is = absurd cc
 brings-instead old new seen.Pay is = is
 brings-instead old new seen.Close is = is
 
-module _ (s : Inside) (is : IsIndexed s) (old new number place : ℕ) (m next : KeptMessage) (objects : Marking (Slot Kept))
+module _ (s : Inside) (is : IsIndexed s) (old new number place : ℕ) (m next : KeptMessage)
+    (objects : Marking (Slot Kept))
     (at : ObjectIsAt (held_now s.contents) number place (kept.Message m))
     (instead : next ≡ kept_instead old new m)
     (now : objects.now ≡ put_at s.contents.objects.now place (Some (kept.Message next)))
@@ -158,7 +159,8 @@ module _ (s : Inside) (is : IsIndexed s) (old new number place : ℕ) (m next : 
         subst (λ o. Spans o w) under (is.now.held number w some);
   }
 
-  comes : PlaceComes before after number place (Some (kept.Message next)) (values_at before place) (lists_at before place)
+  comes : PlaceComes before after number place (Some (kept.Message next)) (values_at before place)
+      (lists_at before place)
   comes = record {
     slots = now;
     value_rows = sym (set-get_or before.value_rows place []);
@@ -175,7 +177,8 @@ module _ (s : Inside) (is : IsIndexed s) (old new number place : ℕ) (m next : 
   message-indexed =
       indexed-again s objects s.contents.values s.contents.lists s.contents.channels s.contents.numbers marked refl refl
       (same-names s.contents.channels.marked s.contents.channels.marked refl) s.room is
-      (comes-holding before after is.now place number (kept.Message m) (Some (kept.Message next)) (values_at before place)
+      (comes-holding before after is.now place number (kept.Message m) (Some (kept.Message next))
+      (values_at before place)
       (lists_at before place) can comes)
       (record {
         objects = omega (arith, room, is.has_room.objects);
@@ -194,7 +197,8 @@ module _ (s : Inside) (is : IsIndexed s) (old new number place : ℕ) (m next : 
       record (state_of before) { objects = change.put_at number (Some o) (state_of before).objects } in
       let turned : Payload → Object = λ payload.
       object.Message (record (message_held number row (kept_instead old new m)) { payload = payload }) in
-      comes-state before after is.now place number (kept.Message m) (Some (kept.Message next)) row (lists_at before place) can comes
+      comes-state before after is.now place number (kept.Message m) (Some (kept.Message next)) row
+      (lists_at before place) can comes
       ∙ ap (λ (n : KeptMessage). put (object.Message (message_held number row n))) instead
       ∙ ap (λ (payload : Payload). put (turned payload)) (payload-instead old new m.brings row)
       ∙ sym (ap (λ (os : List Object). record (state_of before) { objects = os })

@@ -84,7 +84,8 @@ module _ {X : Type 0} (v : VarId) (x : X) where
       ap (λ (m : ℕ). set b m (e.0, x)) at
       ∙ bind-there b e (omega (arith, at)) (sym is ∙ ap (λ (m : ℕ). get_or b m e) at) same
 
-  pub bind-insert : (b : List (VarId × X)) (n : ℕ) → n ≡ below b → (IsBoundAt v b n → ⊥) → insert b n (v, x) ≡ bind v x b
+  pub bind-insert : (b : List (VarId × X)) (n : ℕ) → n ≡ below b → (IsBoundAt v b n → ⊥)
+      → insert b n (v, x) ≡ bind v x b
   bind-insert b n at other =
       ap (λ (m : ℕ). insert b m (v, x)) at
       ∙ bind-new b
@@ -150,14 +151,18 @@ module _ {X : Type 0} where
   point-count p (e ∷ b) (suc n) within point =
       let passes : p e ≡ true = point.0 0 e (omega arith) (omega arith) in
       let rest : n ≡ prefix_len p b =
-      point-count p b n (omega arith)
-      ((λ k d from low. point.0 (suc k) d (omega arith) (omega arith)), (λ k d from below. point.1 (suc k) d (omega arith) (omega arith))) in
+      point-count p b n (omega arith) (
+        (λ k d from low. point.0 (suc k) d (omega arith) (omega arith)),
+        (λ k d from below. point.1 (suc k) d (omega arith) (omega arith)),
+      ) in
       let more : suc n ≡ 1 + prefix_len p b = omega arith in
       more ∙ sym (ap (λ t. cond t (1 + prefix_len p b) 0) passes)
 
 -- ---- a pair that is replaced
 
-pub insert-after_remove : {Y : Type 0} (ys : List Y) (n : ℕ) (y : Y) → n < length ys → insert (remove ys n) n y ≡ set ys n y
+pub insert-after_remove : {Y : Type 0} (ys : List Y) (n : ℕ) (y : Y) → n < length ys
+    → insert (remove ys n) n y ≡ set ys n y
 insert-after_remove [] n y within = absurd (omega arith)
 insert-after_remove (z ∷ ys) zero y within = refl
-insert-after_remove {Y = Y} (z ∷ ys) (suc n) y within = ap (λ (zs : List Y). z ∷ zs) (insert-after_remove ys n y (omega arith))
+insert-after_remove {Y = Y} (z ∷ ys) (suc n) y within = ap (λ (zs : List Y). z ∷ zs)
+    (insert-after_remove ys n y (omega arith))

@@ -125,7 +125,8 @@ value-standing h is place n k holds = by_slot (slice_get h.slots place) refl hol
     apart e = cc
 
     by_item : (s : Slot Kept) (item : Option Kept) → s.item ≡ item → FitsRow item row
-        → (let paired : Kept → ℕ × Kept = λ k. (s.number, k) in option_map paired item) ≡ Some (n, kept.Message k) → HasValue k.brings row
+        → (let paired : Kept → ℕ × Kept = λ k. (s.number, k) in option_map paired item) ≡ Some (n, kept.Message k)
+        → HasValue k.brings row
     by_item s None is fits same = absurd (none-some (n, kept.Message k) same)
     by_item s (Some (kept.Message q)) is fits same =
         let pair : (n, kept.Message k) ≡ (s.number, kept.Message q) =

@@ -37,12 +37,14 @@ holding-same before after same is = record {
   list_rows = ap length same.list_rows ∙ is.list_rows ∙ sym (ap length same.slots);
   ascending = subst IsAscending (sym same.slots) is.ascending;
   below =
-      let Below : List (Slot Kept) → Numbers → Type 0 = λ slots drawn. All (λ n. n < drawn.next_object) (numbers slots) in
+      let Below : List (Slot Kept) → Numbers → Type 0 = λ slots drawn. All (λ n. n < drawn.next_object)
+      (numbers slots) in
       subst (λ (d : Numbers). Below after.slots d) (sym same.drawn)
       (subst (λ (s : List (Slot Kept)). Below s before.drawn) (sym same.slots) is.below);
   names_ascending = subst IsAscending (sym same.names) is.names_ascending;
   names_below =
-      let Below : List (Slot TypeId) → Numbers → Type 0 = λ names drawn. All (λ n. n < drawn.next_name) (numbers names) in
+      let Below : List (Slot TypeId) → Numbers → Type 0 = λ names drawn. All (λ n. n < drawn.next_name)
+      (numbers names) in
       subst (λ (d : Numbers). Below after.names d) (sym same.drawn)
       (subst (λ (s : List (Slot TypeId)). Below s before.drawn) (sym same.names) is.names_below);
   fit =

@@ -202,7 +202,8 @@ module _ (h : Holding) (is : IsHolding h) (name : ℕ) where
   named-uses : (pid : ℕ) → HasName h.cells name pid
       → (p : Process) × Contains objects (object.Process p) × (p.pid ≡ pid)
       × (has_name name (used (object.Process p)) ≡ true)
-  named-uses pid (v, named) = by_found (found h.slots pid) refl (is.held pid v (some-there (name_in h.cells pid v) named))
+  named-uses pid (v, named) = by_found (found h.slots pid) refl
+      (is.held pid v (some-there (name_in h.cells pid v) named))
     where
       some-there : (o : Option ℕ) → o ≡ Some name → IsSome o
       some-there (Some n) is = refl
@@ -217,7 +218,8 @@ module _ (h : Holding) (is : IsHolding h) (name : ℕ) where
       by_found (Some (kept.Message k)) there process = absurd process
       by_found (Some (kept.Process k)) there process =
           let (place, at) = found-there h.slots pid (kept.Process k) there in
-          let p = process_held h.cells pid (slice_index_or h.value_rows place []) (slice_index_or h.list_rows place []) k in
+          let p = process_held h.cells pid (slice_index_or h.value_rows place []) (slice_index_or h.list_rows place [])
+          k in
           let slot : Slot Kept = record { number = pid; item = Some (kept.Process k) } in
           let stands : object_at objects pid ≡ Some (object.Process p) =
           standing-found h is place slot at ∙ standing-is h place slot at
@@ -317,7 +319,8 @@ module _ (h : Holding) (is : IsHolding h) (name : ℕ) where
       → list_any (λ o. one o || other o) xs ≡ (list_any one xs || list_any other xs)
   two-tests one other [] = refl
   two-tests one other (x ∷ xs) =
-      ap (λ b. (one x || other x) || b) (two-tests one other xs) ∙ at (one x) (other x) (list_any one xs) (list_any other xs)
+      ap (λ b. (one x || other x) || b) (two-tests one other xs) ∙ at (one x) (other x) (list_any one xs)
+      (list_any other xs)
     where
       at : (a b c d : Bool) → ((a || b) || (c || d)) ≡ ((a || c) || (b || d))
       at true b c d = refl

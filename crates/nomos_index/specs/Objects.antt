@@ -39,7 +39,8 @@ abbrev pub entries_of : List Cell → ℕ → List (VarId × ℕ)
 entries_of [] process = []
 entries_of (None ∷ cells) process = entries_of cells process
 entries_of (Some e ∷ cells) process =
-    cond (e.process == process) ((record { 0 = e.variable }, e.name) ∷ entries_of cells process) (entries_of cells process)
+    cond (e.process == process) ((record { 0 = e.variable }, e.name) ∷ entries_of cells process)
+    (entries_of cells process)
 
 -- the channels of a process
 abbrev pub channels_of : List Cell → ℕ → List (VarId × ℕ)

@@ -65,8 +65,8 @@ impl Inside {
         }
     }
 
-    /// The gaps that objects and names left, which came since the mark, are closed where they are many. It takes no room
-    /// and no memory. Over many calls it costs no more than there were objects and names that left.
+    /// The gaps that objects and names left, which came since the mark, are closed where they are many. It takes no
+    /// room and no memory. Over many calls it costs no more than there were objects and names that left.
     pub fn close_gaps(&mut self)
         ensures state { self.new.state ≡ self.old.state }
         ensures room { self.new.room ≡ self.old.room }

@@ -64,7 +64,8 @@ fn is_ready_at<S: Sight>(
     place: usize,
     after: u32,
 ) -> bool
-    ensures { result ≡ passes_at (is_over after (is_ready_in accepted.now (S.state sight.now))) (held_now contents.now) place }
+    ensures { result ≡ passes_at (is_over after (is_ready_in accepted.now (S.state sight.now))) (held_now contents.now)
+        place }
 {
     match kept_at(contents, place) {
         Some((pid, Kept::Process(_))) => after < pid && looks_ready(sight, accepted, pid),
@@ -80,7 +81,8 @@ fn first_ready<S: Sight>(
     after: u32,
 ) -> Option<usize>
     requires { IsHolding (held_now contents.now) }
-    ensures { IsFirstPlace (is_over after (is_ready_in accepted.now (S.state sight.now))) (held_now contents.now) result }
+    ensures { IsFirstPlace (is_over after (is_ready_in accepted.now (S.state sight.now))) (held_now contents.now)
+        result }
 {
     let start = start_over(&contents.objects, after);
     for place in start..contents.objects.len() {

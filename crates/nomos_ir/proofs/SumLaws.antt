@@ -130,4 +130,5 @@ count-after_bind n v k b ascending =
 pub count-in_bindings_of : (n : ℕ) (ps : List (VarId × ℕ)) → ((v : ℕ) → count_of v (variables_of ps) ≤ 1)
     → times_bound n (bindings_of ps) ≡ times_bound n ps
 count-in_bindings_of n ps once =
-    sum-of_values (is_one n) (bindings_of ps) ∙ sum-in_bindings_of (is_one n) ps once ∙ sym (sum-of_values (is_one n) ps)
+    sum-of_values (is_one n) (bindings_of ps) ∙ sum-in_bindings_of (is_one n) ps once
+    ∙ sym (sum-of_values (is_one n) ps)

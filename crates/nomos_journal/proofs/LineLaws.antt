@@ -42,13 +42,17 @@ no_end unit (line.Head version.One) is rest same = absurd (omega (arith, ap (λ 
 no_end unit (line.Head version.Two) is rest same = absurd (omega (arith, ap (λ t. get_or t 0 0) same))
 no_end unit (line.Steps n) is rest same = absurd (omega (arith, ap (λ t. get_or t 0 0) same))
 no_end unit (line.Line n) is rest same = absurd (omega (arith, ap (λ t. get_or t 0 0) same))
-no_end unit (line.Pid pid) is rest same = absurd (omega (arith, firing_first unit (line.Pid pid) is, ap (λ t. get_or t 0 0) same))
-no_end unit (line.Worked pid gas) is rest same = absurd (omega (arith, firing_first unit (line.Worked pid gas) is, ap (λ t. get_or t 0 0) same))
-no_end unit (line.Fired pid f) is rest same = absurd (omega (arith, firing_first unit (line.Fired pid f) is, ap (λ t. get_or t 0 0) same))
+no_end unit (line.Pid pid) is rest same =
+    absurd (omega (arith, firing_first unit (line.Pid pid) is, ap (λ t. get_or t 0 0) same))
+no_end unit (line.Worked pid gas) is rest same = absurd
+    (omega (arith, firing_first unit (line.Worked pid gas) is, ap (λ t. get_or t 0 0) same))
+no_end unit (line.Fired pid f) is rest same = absurd
+    (omega (arith, firing_first unit (line.Fired pid f) is, ap (λ t. get_or t 0 0) same))
 no_end unit (line.End e) is rest same = absurd is
 
 -- so is a line that is read as a firing, or as one without an end
-short_itself : (unit : ℕ) (l : JournalLine) → IsShortLine l → ReadsAs IsShortLine (line_text unit) (line_text unit l) (Some l)
+short_itself : (unit : ℕ) (l : JournalLine) → IsShortLine l → ReadsAs IsShortLine (line_text unit) (line_text unit l)
+    (Some l)
     → ReadsAs IsLine (line_text unit) (line_text unit l) (Some l)
 short_itself unit l is reads = short_reads unit (line_text unit l) (Some l) (no_end unit l is) reads
 
@@ -108,9 +112,11 @@ pub feedless_line : (unit : ℕ) (l : JournalLine) → unit < 2 ^ 32 → IsLine 
 feedless_line unit (line.Head version.One) unit_small is = Lacks-tested 10 (head_text version.One) refl
 feedless_line unit (line.Head version.Two) unit_small is = Lacks-tested 10 (head_text version.Two) refl
 feedless_line unit (line.Steps n) unit_small is =
-    Lacks-append 10 (codes "steps ") (decimal n) (Lacks-tested 10 (codes "steps ") refl) (feedless_number n (omega (arith, is)))
+    Lacks-append 10 (codes "steps ") (decimal n) (Lacks-tested 10 (codes "steps ") refl)
+    (feedless_number n (omega (arith, is)))
 feedless_line unit (line.Line n) unit_small is =
-    Lacks-append 10 (codes "line ") (decimal n) (Lacks-tested 10 (codes "line ") refl) (feedless_number n (omega (arith, is)))
+    Lacks-append 10 (codes "line ") (decimal n) (Lacks-tested 10 (codes "line ") refl)
+    (feedless_number n (omega (arith, is)))
 feedless_line unit (line.Pid pid) unit_small is = feedless_number pid (omega (arith, is))
 feedless_line unit (line.Worked pid gas) unit_small is =
     Lacks-append 10 (decimal pid ++ codes " work ") (decimal gas)
@@ -119,10 +125,12 @@ feedless_line unit (line.Worked pid gas) unit_small is =
     (feedless_number gas (omega (arith, is.1)))
 feedless_line unit (line.Fired pid f) unit_small is =
     Lacks-append 10 (decimal pid ++ codes " ") (form_name f)
-    (Lacks-append 10 (decimal pid) (codes " ") (feedless_number pid (omega (arith, is.0))) (Lacks-tested 10 (codes " ") refl))
+    (Lacks-append 10 (decimal pid) (codes " ") (feedless_number pid (omega (arith, is.0)))
+    (Lacks-tested 10 (codes " ") refl))
     (feedless_form f)
 feedless_line unit (line.End e) unit_small is =
-    Lacks-append 10 (codes "end ") (end_text unit e) (Lacks-tested 10 (codes "end ") refl) (feedless_end unit e unit_small is)
+    Lacks-append 10 (codes "end ") (end_text unit e) (Lacks-tested 10 (codes "end ") refl)
+    (feedless_end unit e unit_small is)
 
 -- the first line of a text, and the others
 pub first_line : (unit : ℕ) (l : JournalLine) (ls : List JournalLine)

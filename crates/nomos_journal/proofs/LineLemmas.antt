@@ -86,7 +86,8 @@ fired_parts pid f = append_assoc (decimal pid) (codes " ") (form_name f)
 
 -- a text that comes apart has a blank
 blank_in : (text front back : List ℕ) → Lacks 32 text → text ≡ front ++ 32 ∷ back → ⊥
-blank_in text front back lacks e = let lacks' : Lacks 32 (front ++ 32 ∷ back) = rw (← e) lacks in Lacks-apart 32 front back lacks'
+blank_in text front back lacks e = let lacks' : Lacks 32 (front ++ 32 ∷ back) = rw (← e) lacks in
+    Lacks-apart 32 front back lacks'
 
 -- a firing without a blank
 pid_each : (unit : ℕ) (text : List ℕ) → Lacks 32 text → (l : JournalLine) → IsFiring l → text ≡ line_text unit l
@@ -96,8 +97,10 @@ pid_each unit text lacks (line.Head version.Two) is same = absurd is
 pid_each unit text lacks (line.Steps n) is same = absurd is
 pid_each unit text lacks (line.Line n) is same = absurd is
 pid_each unit text lacks (line.Pid pid) is same = (pid, is, refl, same)
-pid_each unit text lacks (line.Worked pid gas) is same = absurd (blank_in text (decimal pid) (codes "work " ++ decimal gas) lacks (same ∙ worked_parts pid gas))
-pid_each unit text lacks (line.Fired pid f) is same = absurd (blank_in text (decimal pid) (form_name f) lacks (same ∙ fired_parts pid f))
+pid_each unit text lacks (line.Worked pid gas) is same =
+    absurd (blank_in text (decimal pid) (codes "work " ++ decimal gas) lacks (same ∙ worked_parts pid gas))
+pid_each unit text lacks (line.Fired pid f) is same =
+    absurd (blank_in text (decimal pid) (form_name f) lacks (same ∙ fired_parts pid f))
 pid_each unit text lacks (line.End e) is same = absurd is
 
 pub pid_none : (unit : ℕ) (text : List ℕ) → Lacks 32 text → ReadsBits 32 text None
@@ -171,8 +174,11 @@ firing_found : (unit : ℕ) (text front back : List ℕ) (by : ℕ) (answer : Op
     → IfSome answer (λ l. IsFiring l × (text ≡ line_text unit l))
 firing_found unit text front back by None apart number fired = tt
 firing_found unit text front back by (Some l) apart number fired =
-    let is = firing_of unit by l number.found.0 fired.found.0 in
-    (is.0, apart.joined ∙ ap (λ t. t ++ 32 ∷ back) number.found.1 ∙ ap (λ t. decimal by ++ 32 ∷ t) fired.found.1 ∙ sym is.1)
+    let is = firing_of unit by l number.found.0 fired.found.0 in (
+      is.0,
+      apart.joined ∙ ap (λ t. t ++ 32 ∷ back) number.found.1 ∙ ap (λ t. decimal by ++ 32 ∷ t) fired.found.1
+          ∙ sym is.1,
+    )
 
 -- with a number
 pub firing_reads : (unit : ℕ) (text front back : List ℕ) (by : ℕ) (answer : Option JournalLine)
@@ -204,7 +210,8 @@ firing_first unit (line.Head version.Two) is = absurd is
 firing_first unit (line.Steps n) is = absurd is
 firing_first unit (line.Line n) is = absurd is
 firing_first unit (line.Pid pid) is = rw (← append-nil (decimal pid)) (digit_in_front pid [] is)
-firing_first unit (line.Worked pid gas) is = rw (worked_parts pid gas) (digit_in_front pid (32 ∷ (codes "work " ++ decimal gas)) is.0)
+firing_first unit (line.Worked pid gas) is = rw (worked_parts pid gas)
+    (digit_in_front pid (32 ∷ (codes "work " ++ decimal gas)) is.0)
 firing_first unit (line.Fired pid f) is = rw (fired_parts pid f) (digit_in_front pid (32 ∷ form_name f) is.0)
 firing_first unit (line.End e) is = absurd is
 
@@ -215,9 +222,12 @@ at_each unit rest (line.Head version.One) is same = absurd (omega (arith, ap (λ
 at_each unit rest (line.Head version.Two) is same = absurd (omega (arith, ap (λ t. get_or t 0 0) same))
 at_each unit rest (line.Steps n) is same = absurd (omega (arith, ap (λ t. get_or t 0 0) same))
 at_each unit rest (line.Line n) is same = (n, is, refl, ap (λ t. drop 5 t) same)
-at_each unit rest (line.Pid pid) is same = absurd (omega (arith, firing_first unit (line.Pid pid) is, ap (λ t. get_or t 0 0) same))
-at_each unit rest (line.Worked pid gas) is same = absurd (omega (arith, firing_first unit (line.Worked pid gas) is, ap (λ t. get_or t 0 0) same))
-at_each unit rest (line.Fired pid f) is same = absurd (omega (arith, firing_first unit (line.Fired pid f) is, ap (λ t. get_or t 0 0) same))
+at_each unit rest (line.Pid pid) is same =
+    absurd (omega (arith, firing_first unit (line.Pid pid) is, ap (λ t. get_or t 0 0) same))
+at_each unit rest (line.Worked pid gas) is same = absurd
+    (omega (arith, firing_first unit (line.Worked pid gas) is, ap (λ t. get_or t 0 0) same))
+at_each unit rest (line.Fired pid f) is same = absurd
+    (omega (arith, firing_first unit (line.Fired pid f) is, ap (λ t. get_or t 0 0) same))
 at_each unit rest (line.End e) is same = absurd is
 
 -- the most firings
@@ -227,9 +237,12 @@ steps_each unit rest (line.Head version.One) is same = absurd (omega (arith, ap 
 steps_each unit rest (line.Head version.Two) is same = absurd (omega (arith, ap (λ t. get_or t 0 0) same))
 steps_each unit rest (line.Steps n) is same = (n, is, refl, ap (λ t. drop 6 t) same)
 steps_each unit rest (line.Line n) is same = absurd (omega (arith, ap (λ t. get_or t 0 0) same))
-steps_each unit rest (line.Pid pid) is same = absurd (omega (arith, firing_first unit (line.Pid pid) is, ap (λ t. get_or t 0 0) same))
-steps_each unit rest (line.Worked pid gas) is same = absurd (omega (arith, firing_first unit (line.Worked pid gas) is, ap (λ t. get_or t 0 0) same))
-steps_each unit rest (line.Fired pid f) is same = absurd (omega (arith, firing_first unit (line.Fired pid f) is, ap (λ t. get_or t 0 0) same))
+steps_each unit rest (line.Pid pid) is same = absurd
+    (omega (arith, firing_first unit (line.Pid pid) is, ap (λ t. get_or t 0 0) same))
+steps_each unit rest (line.Worked pid gas) is same =
+    absurd (omega (arith, firing_first unit (line.Worked pid gas) is, ap (λ t. get_or t 0 0) same))
+steps_each unit rest (line.Fired pid f) is same = absurd
+    (omega (arith, firing_first unit (line.Fired pid f) is, ap (λ t. get_or t 0 0) same))
 steps_each unit rest (line.End e) is same = absurd is
 
 pub at_none : (unit : ℕ) (text rest : List ℕ) → text ≡ codes "line " ++ rest → ReadsBits 32 rest None
@@ -278,9 +291,12 @@ head_each_one unit (line.Head version.One) is same = refl
 head_each_one unit (line.Head version.Two) is same = absurd (omega (arith, ap (λ t. get_or t 14 0) same))
 head_each_one unit (line.Steps n) is same = absurd (omega (arith, ap (λ t. get_or t 0 0) same))
 head_each_one unit (line.Line n) is same = absurd (omega (arith, ap (λ t. get_or t 0 0) same))
-head_each_one unit (line.Pid pid) is same = absurd (omega (arith, firing_first unit (line.Pid pid) is, ap (λ t. get_or t 0 0) same))
-head_each_one unit (line.Worked pid gas) is same = absurd (omega (arith, firing_first unit (line.Worked pid gas) is, ap (λ t. get_or t 0 0) same))
-head_each_one unit (line.Fired pid f) is same = absurd (omega (arith, firing_first unit (line.Fired pid f) is, ap (λ t. get_or t 0 0) same))
+head_each_one unit (line.Pid pid) is same = absurd
+    (omega (arith, firing_first unit (line.Pid pid) is, ap (λ t. get_or t 0 0) same))
+head_each_one unit (line.Worked pid gas) is same =
+    absurd (omega (arith, firing_first unit (line.Worked pid gas) is, ap (λ t. get_or t 0 0) same))
+head_each_one unit (line.Fired pid f) is same = absurd
+    (omega (arith, firing_first unit (line.Fired pid f) is, ap (λ t. get_or t 0 0) same))
 head_each_one unit (line.End e) is same = absurd is
 
 head_each_two : (unit : ℕ) (l : JournalLine) → IsShortLine l → head_text version.Two ≡ line_text unit l
@@ -289,9 +305,12 @@ head_each_two unit (line.Head version.One) is same = absurd (omega (arith, ap (�
 head_each_two unit (line.Head version.Two) is same = refl
 head_each_two unit (line.Steps n) is same = absurd (omega (arith, ap (λ t. get_or t 0 0) same))
 head_each_two unit (line.Line n) is same = absurd (omega (arith, ap (λ t. get_or t 0 0) same))
-head_each_two unit (line.Pid pid) is same = absurd (omega (arith, firing_first unit (line.Pid pid) is, ap (λ t. get_or t 0 0) same))
-head_each_two unit (line.Worked pid gas) is same = absurd (omega (arith, firing_first unit (line.Worked pid gas) is, ap (λ t. get_or t 0 0) same))
-head_each_two unit (line.Fired pid f) is same = absurd (omega (arith, firing_first unit (line.Fired pid f) is, ap (λ t. get_or t 0 0) same))
+head_each_two unit (line.Pid pid) is same = absurd
+    (omega (arith, firing_first unit (line.Pid pid) is, ap (λ t. get_or t 0 0) same))
+head_each_two unit (line.Worked pid gas) is same =
+    absurd (omega (arith, firing_first unit (line.Worked pid gas) is, ap (λ t. get_or t 0 0) same))
+head_each_two unit (line.Fired pid f) is same = absurd
+    (omega (arith, firing_first unit (line.Fired pid f) is, ap (λ t. get_or t 0 0) same))
 head_each_two unit (line.End e) is same = absurd is
 
 -- the first line of a text
@@ -368,7 +387,8 @@ IsLine-short (line.Worked pid gas) is = is
 IsLine-short (line.Fired pid f) is = is
 IsLine-short (line.End e) is = absurd is
 
-short_found : (unit : ℕ) (text : List ℕ) (answer : Option JournalLine) → ReadsAs IsShortLine (line_text unit) text answer
+short_found : (unit : ℕ) (text : List ℕ) (answer : Option JournalLine)
+    → ReadsAs IsShortLine (line_text unit) text answer
     → IfSome answer (λ l. IsLine l × (text ≡ line_text unit l))
 short_found unit text None reads = tt
 short_found unit text (Some l) reads = (IsLine-short l reads.found.0, reads.found.1)
@@ -387,9 +407,12 @@ end_each unit rest (line.Head version.One) is same = absurd (omega (arith, ap (�
 end_each unit rest (line.Head version.Two) is same = absurd (omega (arith, ap (λ t. get_or t 0 0) same))
 end_each unit rest (line.Steps n) is same = absurd (omega (arith, ap (λ t. get_or t 0 0) same))
 end_each unit rest (line.Line n) is same = absurd (omega (arith, ap (λ t. get_or t 0 0) same))
-end_each unit rest (line.Pid pid) is same = absurd (omega (arith, firing_first unit (line.Pid pid) is, ap (λ t. get_or t 0 0) same))
-end_each unit rest (line.Worked pid gas) is same = absurd (omega (arith, firing_first unit (line.Worked pid gas) is, ap (λ t. get_or t 0 0) same))
-end_each unit rest (line.Fired pid f) is same = absurd (omega (arith, firing_first unit (line.Fired pid f) is, ap (λ t. get_or t 0 0) same))
+end_each unit rest (line.Pid pid) is same = absurd
+    (omega (arith, firing_first unit (line.Pid pid) is, ap (λ t. get_or t 0 0) same))
+end_each unit rest (line.Worked pid gas) is same =
+    absurd (omega (arith, firing_first unit (line.Worked pid gas) is, ap (λ t. get_or t 0 0) same))
+end_each unit rest (line.Fired pid f) is same = absurd
+    (omega (arith, firing_first unit (line.Fired pid f) is, ap (λ t. get_or t 0 0) same))
 end_each unit rest (line.End e) is same = (e, is, refl, ap (λ t. drop 4 t) same)
 
 pub end_none : (unit : ℕ) (text rest : List ℕ) → text ≡ codes "end " ++ rest → ReadsAs IsEnd (end_text unit) rest None

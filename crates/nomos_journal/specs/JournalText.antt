@@ -69,7 +69,8 @@ abbrev pub journal_lines : Version → Acceptance → ℕ → List Passage → L
 journal_lines v a limit ps = line.Head v ∷ line.Steps limit ∷ flat_map (passage_lines v a) ps
 
 -- The bytes are the text in this version of the journal of these items, which is legal.
-pub record IsTextOf (v : Version) (a : Acceptance) (items : List ScriptItem) (journal : Journal) (text : List ℕ) : Type 0
+pub record IsTextOf (v : Version) (a : Acceptance) (items : List ScriptItem) (journal : Journal) (text : List ℕ) : Type
+    0
   where
     pub passages : List Passage
     pub last : LedgerState

@@ -54,7 +54,8 @@ no_stars-total : (lists : ProgramLists) → IsProgram lists → star_count lists
 no_stars-total lists is_program none =
     let goal = goal_of lists in
     let m = all_declared (record { stars = []; unit = 1 }) lists in
-    let value : form_value [] 1 goal ≡ pos m = goal-worth lists (record { stars = []; unit = 1 }) is_program (sym none) in
+    let value : form_value [] 1 goal ≡ pos m = goal-worth lists (record { stars = []; unit = 1 }) is_program
+    (sym none) in
     let plus : goal.plus ≡ pos m = sym (value-none goal.plus (dot goal.coefs []) (dot-none goal.coefs)) ∙ value in
     let low : m < 2 ^ 62 = plus-low m goal.plus plus (goal-is_form lists is_program).plus in
     ap is_total value ∙ total-of m low

@@ -95,7 +95,8 @@ pub data Resolves (a : Acceptance) (l : LedgerState) (start : Start) : Result Re
   bad_arguments : (payer number : ℕ) (d : ProcDecl) → IsPayer l start payer → IsDeclaration a start number d
       → ((shared : List ℕ) → ¬ (ArgumentsFit a l start d shared))
       → Resolves a l start (Err (refusal.BadArguments start.proc))
-  name_taken : (payer number : ℕ) (d : ProcDecl) (shared : List ℕ) (name : List ℕ) (contract : ℕ) → IsPayer l start payer
+  name_taken : (payer number : ℕ) (d : ProcDecl) (shared : List ℕ) (name : List ℕ) (contract : ℕ)
+      → IsPayer l start payer
       → IsDeclaration a start number d → ArgumentsFit a l start d shared → start.contract ≡ Some name
       → shared_name l.contracts name ≡ Some contract → Resolves a l start (Err (refusal.NameTaken name))
   no_gas : (payer number : ℕ) (d : ProcDecl) (shared : List ℕ) → IsPayer l start payer → IsDeclaration a start number d

@@ -75,7 +75,8 @@ module _ {a : Acceptance} (accepted : IsAccepted a) {s : State} (typed : IsTyped
       → q.mode ≡ p.mode → IsAscending q.values → IsAscending q.lists → potential_of q ≤ q.purse → free_purse q ≡ k.q
       → burnt + q.purse ≡ p.purse
       → Goes a s true (Some (changes (record (alone a s p q) { burnt = burnt; emitted = emitted })))
-  goes-by_row q burnt emitted after k row among matches pid offers channels base payer same_mode values lists covered exact
+  goes-by_row q burnt emitted after k row among matches pid offers channels base payer same_mode values lists covered
+      exact
       pays =
       let t = process-typed typed there in
       let variables = process-variables typed there in
@@ -120,7 +121,8 @@ module _ {a : Acceptance} (accepted : IsAccepted a) {s : State} (typed : IsTyped
         channels = t.matches.channels;
       }
 
-  pub let-goes : (at : ℕ) (v : VarId) (e : TermId) (next : CodeId) → At (code.Let at v e next) → GoesAt (code.Let at v e next)
+  pub let-goes : (at : ℕ) (v : VarId) (e : TermId) (next : CodeId) → At (code.Let at v e next)
+      → GoesAt (code.Let at v e next)
   let-goes at v e next stands = come (term_evaluation a.program p.values e) refl
     where
       n : CodeNode
@@ -133,7 +135,8 @@ module _ {a : Acceptance} (accepted : IsAccepted a) {s : State} (typed : IsTyped
           let (after, row) = own-row typed there accepted in
           let (kind, of_kind, free, goes_on) = row-inverted n (own-stands typed there n stands) row in
           let k : Judgement = binds_value (at_code own next) v kind in
-          let among : Contains after k = subst (λ (js : List Judgement). Contains js k) (sym goes_on) (0, omega arith, refl) in
+          let among : Contains after k = subst (λ (js : List Judgement). Contains js k) (sym goes_on)
+          (0, omega arith, refl) in
           let t = process-typed typed there in
           let variables = process-variables typed there in
           let has = value-has_kind typed there accepted e kind x m of_kind is in
@@ -163,10 +166,12 @@ module _ {a : Acceptance} (accepted : IsAccepted a) {s : State} (typed : IsTyped
           let (after, row) = own-row typed there accepted in
           let (kind, of_kind, goes_on) = row-inverted n (own-stands typed there n stands) row in
           let k : Judgement = at_code own next in
-          let among : Contains after k = subst (λ (js : List Judgement). Contains js k) (sym goes_on) (0, omega arith, refl) in
+          let among : Contains after k = subst (λ (js : List Judgement). Contains js k) (sym goes_on)
+          (0, omega arith, refl) in
           let t = process-typed typed there in
           let variables = process-variables typed there in
-          goes-by_row (standing_at next p) 0 ((p.pid, x) ∷ []) after k row among (matches-on next) refl refl refl refl refl refl
+          goes-by_row (standing_at next p) 0 ((p.pid, x) ∷ []) after k row among (matches-on next) refl refl refl refl
+          refl refl
           variables.values variables.lists t.covered refl (omega arith)
 
   pub if-goes : (at : ℕ) (e : TermId) (then_next else_next : CodeId) → At (code.If at e then_next else_next)
@@ -202,7 +207,8 @@ module _ {a : Acceptance} (accepted : IsAccepted a) {s : State} (typed : IsTyped
       let (enough, goes_on) = row-inverted n (own-stands typed there n stands) row in
       let gas : ℕ = dths a.annotations r in
       let k : Judgement = with_potential (at_code own next) (own.q - gas) in
-      let among : Contains after k = subst (λ (js : List Judgement). Contains js k) (sym goes_on) (0, omega arith, refl) in
+      let among : Contains after k = subst (λ (js : List Judgement). Contains js k) (sym goes_on)
+      (0, omega arith, refl) in
       let t = process-typed typed there in
       let variables = process-variables typed there in
       let q : Process = standing_at next (poorer gas p) in
@@ -232,12 +238,14 @@ module _ {a : Acceptance} (accepted : IsAccepted a) {s : State} (typed : IsTyped
       let amount : ℕ = dths a.annotations r in
       let list : ListType = record { kind = kind; amount = amount } in
       let k : Judgement = binds_list (at_code own next) v list in
-      let among : Contains after k = subst (λ (js : List Judgement). Contains js k) (sym goes_on) (0, omega arith, refl) in
+      let among : Contains after k = subst (λ (js : List Judgement). Contains js k) (sym goes_on)
+      (0, omega arith, refl) in
       let t = process-typed typed there in
       let variables = process-variables typed there in
       let q : Process = standing_at next (with_list v (empty_list amount) p) in
       let on = matches-on next in
-      let fits : IsListOf (empty_list amount) list = record { amount = refl; items = All-nil (λ x. ValueHasKind x kind) } in
+      let fits : IsListOf (empty_list amount) list =
+      record { amount = refl; items = All-nil (λ x. ValueHasKind x kind) } in
       let matches : Matches a.program a.annotations s.types q k = record {
         mode = on.mode;
         code = refl;
@@ -250,7 +258,8 @@ module _ {a : Acceptance} (accepted : IsAccepted a) {s : State} (typed : IsTyped
       none-left (t.matches.held_lists v.0) (free-list v free)
       in
       let more : potential_of q ≡ potential_of p + amount * 0 =
-      sum-after_new (λ (l : PotentialList). l.amount * length l.items) v (empty_list amount) p.lists variables.lists none
+      sum-after_new (λ (l : PotentialList). l.amount * length l.items) v (empty_list amount) p.lists variables.lists
+      none
       in
       let same : potential_of q ≡ potential_of p = omega (arith, more) in
       let covered : potential_of p ≤ p.purse = t.covered in
@@ -279,7 +288,8 @@ module _ {a : Acceptance} (accepted : IsAccepted a) {s : State} (typed : IsTyped
   list-exchanged v w l m there_l none =
       let variables = process-variables typed there in
       let out : potential_of (list_used_up w p) + list_potential l ≡ potential_of p = list-gone w l there_l in
-      let into = sum-after_new list_potential v m (unbind w.0 p.lists) (unbind-ascending w.0 p.lists variables.lists) none in
+      let into = sum-after_new list_potential v m (unbind w.0 p.lists) (unbind-ascending w.0 p.lists variables.lists)
+      none in
       omega arith
 
   -- a variable that is free is no list of the process, and still none where another one has gone
@@ -320,9 +330,11 @@ module _ {a : Acceptance} (accepted : IsAccepted a) {s : State} (typed : IsTyped
           let variables = process-variables typed there in
           let q : Process = standing_at next (with_list v (lengthened x l) (list_used_up w p)) in
           let k : Judgement =
-          with_potential (binds_list (record (at_code own next) { lists = unbind w.0 own.lists }) v list) (own.q - list.amount)
+          with_potential (binds_list (record (at_code own next) { lists = unbind w.0 own.lists }) v list)
+          (own.q - list.amount)
           in
-          let among : Contains after k = subst (λ (js : List Judgement). Contains js k) (sym goes_on) (0, omega arith, refl) in
+          let among : Contains after k = subst (λ (js : List Judgement). Contains js k) (sym goes_on)
+          (0, omega arith, refl) in
           let h = own-is_judgement typed there accepted in
           let longer_fits : IsListOf (lengthened x l) list = record {
             amount = fits.amount;
@@ -384,10 +396,12 @@ module _ {a : Acceptance} (accepted : IsAccepted a) {s : State} (typed : IsTyped
       n : CodeNode
       n = code.Match at w empty_next head tail full_next
 
-      parts : (l : PotentialList) (list : ListType) (after : List Judgement) → TypingRule a.program a.annotations own after
+      parts : (l : PotentialList) (list : ListType) (after : List Judgement)
+          → TypingRule a.program a.annotations own after
           → TakesApart own w head tail list
           → after ≡ record (at_code own empty_next) { lists = unbind w.0 own.lists } ∷
-          with_potential (binds_value (binds_list (record (at_code own full_next) { lists = unbind w.0 own.lists }) tail list)
+          with_potential (binds_value (binds_list (record (at_code own full_next) { lists = unbind w.0 own.lists }) tail
+          list)
           head list.kind) (own.q + list.amount) ∷ []
           → bound_to w.0 p.lists ≡ Some l → IsListOf l list → (items : List Value) → l.items ≡ items
           → Goes a s true (Some (changes (takes_apart a s p w empty_next head tail full_next l items)))
@@ -396,7 +410,8 @@ module _ {a : Acceptance} (accepted : IsAccepted a) {s : State} (typed : IsTyped
           let variables = process-variables typed there in
           let q : Process = standing_at empty_next (list_used_up w p) in
           let k : Judgement = record (at_code own empty_next) { lists = unbind w.0 own.lists } in
-          let among : Contains after k = subst (λ (js : List Judgement). Contains js k) (sym goes_on) (0, omega arith, refl) in
+          let among : Contains after k = subst (λ (js : List Judgement). Contains js k) (sym goes_on)
+          (0, omega arith, refl) in
           let h = own-is_judgement typed there accepted in
           let on = matches-on empty_next in
           let matches : Matches a.program a.annotations s.types q k = record {
@@ -418,10 +433,12 @@ module _ {a : Acceptance} (accepted : IsAccepted a) {s : State} (typed : IsTyped
           let rest : PotentialList = record l { items = xs } in
           let q : Process = standing_at full_next (with_value head x (with_list tail rest (list_used_up w p))) in
           let k : Judgement =
-          with_potential (binds_value (binds_list (record (at_code own full_next) { lists = unbind w.0 own.lists }) tail list)
+          with_potential (binds_value (binds_list (record (at_code own full_next) { lists = unbind w.0 own.lists }) tail
+          list)
           head list.kind) (own.q + list.amount)
           in
-          let among : Contains after k = subst (λ (js : List Judgement). Contains js k) (sym goes_on) (1, omega arith, refl) in
+          let among : Contains after k = subst (λ (js : List Judgement). Contains js k) (sym goes_on)
+          (1, omega arith, refl) in
           let h = own-is_judgement typed there accepted in
           let Of : Value → Type 0 = λ y. ValueHasKind y list.kind in
           let all : All Of (x ∷ xs) = subst (All Of) is fits.items in

@@ -36,7 +36,8 @@ pub record SameNames (a : Acceptance) (s : State) (p q : Process) : Type 0 where
   pub uses : (name : ℕ) (t : TypeId) (m : Mode) → type_of s.types name ≡ Some t → HasMode a.program t m → m ≢ mode.S
       → count_of name (used (object.Process q)) ≡ count_of name (used (object.Process p))
 
-module _ {a : Acceptance} {s : State} {p : Process} (typed : IsTyped a s) (there : Contains s.objects (object.Process p))
+module _ {a : Acceptance} {s : State} {p : Process} (typed : IsTyped a s)
+    (there : Contains s.objects (object.Process p))
     (q : Process) (burnt : ℕ) (emitted : List (ℕ × Value)) (same : SameNames a s p q) where
   -- the change: the process goes on as q, burns gas and emits values
   abbrev pub goes_alone : Change
@@ -49,7 +50,8 @@ module _ {a : Acceptance} {s : State} {p : Process} (typed : IsTyped a s) (there
   alone-replaces =
       let HasIt : Object → Type 0 = λ o. object_number o ≡ p.pid in
       then (object.Process p) (Some (object.Process q)) [] s.objects [] found-there
-      (All-cons HasIt (object.Process q) [] same.pid (All-nil HasIt)) (done (put_at p.pid (Some (object.Process q)) s.objects))
+      (All-cons HasIt (object.Process q) [] same.pid (All-nil HasIt))
+      (done (put_at p.pid (Some (object.Process q)) s.objects))
 
   -- the table of types is as it was
   same-type : (name : ℕ) → type_of (made s goes_alone).types name ≡ type_of s.types name
@@ -78,7 +80,11 @@ module _ {a : Acceptance} {s : State} {p : Process} (typed : IsTyped a s) (there
   alone-leads : (base name : ℕ) → LeadsToBase s.objects base name → LeadsToBase (made s goes_alone).objects base name
   alone-leads base name leads =
       leads-map (λ n. Unit {0}) s.objects (made s goes_alone).objects base ends
-      (λ m n onward inside provides end stay. (tt, λ leads_on. further m n onward (kept-message m inside) provides end leads_on))
+      (λ m n onward inside provides end stay. (
+        tt,
+        λ leads_on. further m n onward (kept-message m inside) provides end
+            leads_on,
+      ))
       name tt leads
     where
       placed : Contains (made s goes_alone).objects (object.Process q)
@@ -99,7 +105,8 @@ module _ {a : Acceptance} {s : State} {p : Process} (typed : IsTyped a s) (there
           sym (object_at-own o s.objects typed.numbered.ascending inside)
           ∙ ap (object_at s.objects) number ∙ found-there
 
-      kept-message : (m : Message) → Contains s.objects (object.Message m) → Contains (made s goes_alone).objects (object.Message m)
+      kept-message : (m : Message) → Contains s.objects (object.Message m)
+          → Contains (made s goes_alone).objects (object.Message m)
       kept-message m inside = kept (object.Message m) inside (λ number. differ (only (object.Message m) inside number))
         where
           differ : Some (object.Message m) ≡ Some (object.Process p) → ⊥
@@ -130,7 +137,8 @@ module _ {a : Acceptance} {s : State} {p : Process} (typed : IsTyped a s) (there
     typed = All-cons Here (object.Process q) [] here (All-nil Here);
     owned = λ name t m found mode some.
         let before = sym (same-type name) ∙ found in
-        owned-as_before m s (made s goes_alone) name (counts-same name t m before mode) (typed.owned name t m before mode);
+        owned-as_before m s (made s goes_alone) name (counts-same name t m before mode)
+        (typed.owned name t m before mode);
     keeps_shared = λ name t found at_s. (counts-same name t mode.S found at_s).shared refl;
     outside = λ name some.
         let (t, found, at_r) = typed.outside name some in

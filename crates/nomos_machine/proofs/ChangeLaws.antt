@@ -62,7 +62,8 @@ replaced-all P (e ∷ places) objects all here =
 pub made-all : (P : Object → Type 0) (s : State) (c : Change) → All P s.objects → All P (news c.places)
     → All P (option_to_list c.comes) → All P (made s c).objects
 made-all P s c all here coming =
-    All-append P (put_all c.places s.objects) (option_to_list c.comes) (replaced-all P c.places s.objects all here) coming
+    All-append P (put_all c.places s.objects) (option_to_list c.comes) (replaced-all P c.places s.objects all here)
+    coming
 
 -- an object stays, unless its number is one of the places
 pub replaced-kept : (places : List (ℕ × Option Object)) (objects : List Object) (o : Object) → Contains objects o
@@ -76,7 +77,8 @@ replaced-kept (e ∷ places) objects o there other =
 pub made-kept : (s : State) (c : Change) (o : Object) → Contains s.objects o → All (λ e. e.0 ≢ object_number o) c.places
     → Contains (made s c).objects o
 made-kept s c o there other =
-    Contains-append_left (put_all c.places s.objects) (option_to_list c.comes) o (replaced-kept c.places s.objects o there other)
+    Contains-append_left (put_all c.places s.objects) (option_to_list c.comes) o
+    (replaced-kept c.places s.objects o there other)
 
 -- the object that comes is there
 pub made-comes : (s : State) (c : Change) (o : Object) → c.comes ≡ Some o → Contains (made s c).objects o
@@ -94,12 +96,15 @@ replaced-order _ objects _ (further o new places _ olds there numbered rest) ord
 
 -- and their numbers are in the same bounds
 pub replaced-numbers : (P : ℕ → Type 0) (places : List (ℕ × Option Object)) (objects olds : List Object)
-    → Replaces places objects olds → All (λ o. P (object_number o)) objects → All (λ o. P (object_number o)) (put_all places objects)
+    → Replaces places objects olds → All (λ o. P (object_number o)) objects
+    → All (λ o. P (object_number o)) (put_all places objects)
 replaced-numbers P _ objects _ (done _) all = all
 replaced-numbers P _ objects _ (further o new places _ olds there numbered rest) all =
-    let here : P (object_number o) = All-contains (λ e. P (object_number e)) objects o all (object_at-found (object_number o) o objects there).1 in
+    let here : P (object_number o) = All-contains (λ e. P (object_number e)) objects o all
+    (object_at-found (object_number o) o objects there).1 in
     let coming : All (λ e. P (object_number e)) (option_to_list new) =
-    All-weaker (λ e. object_number e ≡ object_number o) (λ e. P (object_number e)) (λ e same. subst P (sym same) here) (option_to_list new)
+    All-weaker (λ e. object_number e ≡ object_number o) (λ e. P (object_number e)) (λ e same. subst P (sym same) here)
+    (option_to_list new)
     numbered
     in
     replaced-numbers P places (put_at (object_number o) new objects) olds rest

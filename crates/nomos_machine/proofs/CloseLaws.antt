@@ -55,7 +55,8 @@ module _ {a : Acceptance} (accepted : IsAccepted a) {s : State} (typed : IsTyped
       (done (put_at p.pid None s.objects))
 
   -- the table of types is as it was
-  same-type : (comes : Option Object) (name : ℕ) → type_of (made s (leaves-with comes)).types name ≡ type_of s.types name
+  same-type : (comes : Option Object) (name : ℕ) → type_of (made s (leaves-with comes)).types name ≡ type_of s.types
+      name
   same-type comes name = ap (λ (types : NameTypes). type_of types name) (append-nil s.types)
 
   -- a section whose last process is another one is as it was
@@ -63,10 +64,15 @@ module _ {a : Acceptance} (accepted : IsAccepted a) {s : State} (typed : IsTyped
       → LeadsToBase (made s (leaves-with comes)).objects base name
   leaves-leads comes other_mode base name leads =
       leads-map (λ n. Unit {0}) s.objects (made s (leaves-with comes)).objects base last
-      (λ m n onward inside provides end stay. (tt, λ leads_on. further m n onward (kept-message m inside) provides end leads_on))
+      (λ m n onward inside provides end stay. (
+        tt,
+        λ leads_on. further m n onward (kept-message m inside) provides end
+            leads_on,
+      ))
       name tt leads
     where
-      kept : (o : Object) → Contains s.objects o → object_number o ≢ p.pid → Contains (made s (leaves-with comes)).objects o
+      kept : (o : Object) → Contains s.objects o → object_number o ≢ p.pid
+          → Contains (made s (leaves-with comes)).objects o
       kept o inside other =
           let Other : ℕ × Option Object → Type 0 = λ e. e.0 ≢ object_number o in
           let apart : Other (p.pid, None) = λ is. other (sym is) in
@@ -74,7 +80,8 @@ module _ {a : Acceptance} (accepted : IsAccepted a) {s : State} (typed : IsTyped
 
       only : (o : Object) → Contains s.objects o → object_number o ≡ p.pid → Some o ≡ Some (object.Process p)
       only o inside number =
-          sym (object_at-own o s.objects typed.numbered.ascending inside) ∙ ap (object_at s.objects) number ∙ found-there
+          sym (object_at-own o s.objects typed.numbered.ascending inside) ∙ ap (object_at s.objects) number
+          ∙ found-there
 
       kept-message : (m : Message) → Contains s.objects (object.Message m)
           → Contains (made s (leaves-with comes)).objects (object.Message m)
@@ -122,7 +129,8 @@ module _ {a : Acceptance} (accepted : IsAccepted a) {s : State} (typed : IsTyped
   told = closes a s p mode.R
 
   -- the type of the offered name unfolds to the end
-  offers-end : Closes a.program (own_judgement p (process-typed typed there)) → (own : TypeId) → type_of s.types p.offers ≡ Some own
+  offers-end : Closes a.program (own_judgement p (process-typed typed there)) → (own : TypeId)
+      → type_of s.types p.offers ≡ Some own
       → Unfolds a.program own.0 node.One
   offers-end ends own found =
       let has = (process-typed typed there).matches.offers in
@@ -133,7 +141,8 @@ module _ {a : Acceptance} (accepted : IsAccepted a) {s : State} (typed : IsTyped
       subst (λ (r : TypeId). Unfolds a.program r.0 node.One) one_type unfolds
       in
       let back = alike_types-back has.alike in
-      let (q, own_unfolds, heads) = equal-unfolded a.program a.annotations (process-typed typed there).place.offers has.own
+      let (q, own_unfolds, heads) = equal-unfolded a.program a.annotations (process-typed typed there).place.offers
+      has.own
       node.One back.equal at_one
       in
       subst (λ (r : TypeId). Unfolds a.program r.0 node.One) same (end-alone q own_unfolds heads)
@@ -143,7 +152,8 @@ module _ {a : Acceptance} (accepted : IsAccepted a) {s : State} (typed : IsTyped
           → Unfolds a.program (process-typed typed there).matches.offers.own.0 node.One
       end-alone _ unfolds one = unfolds
 
-  told-counts : Closes a.program (own_judgement p (process-typed typed there)) → p.mode ≡ mode.R → (name : ℕ) (t : TypeId) (m : Mode)
+  told-counts : Closes a.program (own_judgement p (process-typed typed there)) → p.mode ≡ mode.R
+      → (name : ℕ) (t : TypeId) (m : Mode)
       → type_of s.types name ≡ Some t → HasMode a.program t m → CountsAsBefore m s (made s told) name
   told-counts ends at_r name t m found at_m =
       let replaces = leaves-replaces (Some (object.Message close-message)) in
@@ -180,7 +190,8 @@ module _ {a : Acceptance} (accepted : IsAccepted a) {s : State} (typed : IsTyped
     typed = All-cons Here (object.Message close-message) [] here (All-nil Here);
     owned = λ name t m found at_m some.
         let before = sym (same-type (Some (object.Message close-message)) name) ∙ found in
-        owned-as_before m s (made s told) name (told-counts ends at_r name t m before at_m) (typed.owned name t m before at_m);
+        owned-as_before m s (made s told) name (told-counts ends at_r name t m before at_m)
+        (typed.owned name t m before at_m);
     keeps_shared = λ name t found at_s. (told-counts ends at_r name t mode.S found at_s).shared refl;
     outside = λ name some.
         let (t, found, at_outside) = typed.outside name some in
@@ -196,7 +207,8 @@ module _ {a : Acceptance} (accepted : IsAccepted a) {s : State} (typed : IsTyped
         let section = typed.sections name t (sym (same-type (Some (object.Message close-message)) name) ∙ found) at_l in
         record {
           base = section.base;
-          leads = leaves-leads (Some (object.Message close-message)) (λ is. differ (sym at_r ∙ is)) section.base name section.leads;
+          leads = leaves-leads (Some (object.Message close-message)) (λ is. differ (sym at_r ∙ is)) section.base name
+              section.leads;
           shared = section.shared;
           found = same-type (Some (object.Message close-message)) section.base ∙ section.found;
           synchronizing = section.synchronizing;
@@ -232,11 +244,13 @@ module _ {a : Acceptance} (accepted : IsAccepted a) {s : State} (typed : IsTyped
 
   -- A name of another mode than S that is mentioned afterwards is not the one that the process offered, since that was
   -- used by nobody.
-  still-mentioned : p.mode ≡ mode.T → (name : ℕ) (t : TypeId) (m : Mode) → type_of s.types name ≡ Some t → HasMode a.program t m
+  still-mentioned : p.mode ≡ mode.T → (name : ℕ) (t : TypeId) (m : Mode) → type_of s.types name ≡ Some t
+      → HasMode a.program t m
       → m ≢ mode.S → 1 ≤ times mentioned (made s silent).objects name → p.offers ≢ name
   still-mentioned at_t name t m found at_m other some same =
       let t_p = process-typed typed there in
-      let found_p : type_of s.types p.offers ≡ Some t = subst (λ (n : ℕ). type_of s.types n ≡ Some t) (sym same) found in
+      let found_p : type_of s.types p.offers ≡ Some t = subst (λ (n : ℕ). type_of s.types n ≡ Some t) (sym same)
+      found in
       let at_p = t_p.offered t found_p in
       let at_t_too : HasMode a.program t mode.T = subst (HasMode a.program t) at_t at_p in
       let owned = typed.owned name t mode.T found at_t_too in
@@ -270,7 +284,8 @@ module _ {a : Acceptance} (accepted : IsAccepted a) {s : State} (typed : IsTyped
       differ-s : mode.T ≡ mode.S → ⊥
       differ-s is = cc
 
-  silent-counts : Closes a.program (own_judgement p (process-typed typed there)) → p.mode ≡ mode.T → (name : ℕ) (t : TypeId) (m : Mode)
+  silent-counts : Closes a.program (own_judgement p (process-typed typed there)) → p.mode ≡ mode.T
+      → (name : ℕ) (t : TypeId) (m : Mode)
       → type_of s.types name ≡ Some t → HasMode a.program t m → 1 ≤ times mentioned (made s silent).objects name
       → CountsAsBefore m s (made s silent) name
   silent-counts ends at_t name t m found at_m some =
@@ -325,7 +340,8 @@ module _ {a : Acceptance} (accepted : IsAccepted a) {s : State} (typed : IsTyped
           let owned = typed.owned name t mode.R found at_r in
           let provides = made-times provided name s silent (object.Process p ∷ []) (leaves-replaces None) in
           let other : p.offers ≢ name = λ same.
-          let found_p : type_of s.types p.offers ≡ Some t = subst (λ (n : ℕ). type_of s.types n ≡ Some t) (sym same) found in
+          let found_p : type_of s.types p.offers ≡ Some t = subst (λ (n : ℕ). type_of s.types n ≡ Some t) (sym same)
+          found in
           let at_t_too : HasMode a.program t mode.T =
           subst (HasMode a.program t) at_t ((process-typed typed there).offered t found_p)
           in
@@ -351,7 +367,8 @@ module _ {a : Acceptance} (accepted : IsAccepted a) {s : State} (typed : IsTyped
   close-goes at stands =
       let (after, row) = own-row typed there accepted in
       let (ends, goes_on) = row-inverted (code.Close at) (own-stands typed there (code.Close at) stands) row in
-      let at_own : p.mode ≡ (own_judgement p (process-typed typed there)).mode = (process-typed typed there).matches.mode in
+      let at_own : p.mode ≡ (own_judgement p (process-typed typed there)).mode =
+      (process-typed typed there).matches.mode in
       elim ends.mode [
         | inl at_r ↦
             subst (λ (m : Mode). Goes a s true (Some (changes (closes a s p m)))) (sym (at_own ∙ at_r))

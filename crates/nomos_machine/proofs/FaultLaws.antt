@@ -172,7 +172,8 @@ module _ (a : Acceptance) (s : State) (p : Process) where
   none-at : (other : Process) (n : CodeNode) → slice_get a.program.code other.code.0 ≡ Some n
       → deed_by a s other n (terms_evaluation a.program other.values (code_terms n)) ≡ None → deed a s other ≡ None
   none-at other n stands none =
-      ap (λ (o : Option CodeNode). o >>= λ n. deed_by a s other n (terms_evaluation a.program other.values (code_terms n)))
+      ap (λ (o : Option CodeNode). o >>= λ n. deed_by a s other n
+      (terms_evaluation a.program other.values (code_terms n)))
       stands ∙ none
 
   accepting-none : (other : Process) (n : CodeNode) → slice_get a.program.code other.code.0 ≡ Some n
@@ -218,7 +219,8 @@ module _ (a : Acceptance) (s : State) (p : Process) where
       places-bind (accept_next n) _ (λ onward is_onward.
       places-bind (node_of a.program s.types shared >>= after_acquire) _ (λ t is_t.
       places-some _ (two-places _ _
-      (met other _ (offering-found s.objects shared other is_other).0 (accepting-none other n stands onward is_onward)))))))))
+      (met other _ (offering-found s.objects shared other is_other).0
+      (accepting-none other n stands onward is_onward)))))))))
   deed_at-places (code.Release at v r next) vs =
       deed-does _ (places-bind (bound_to v.0 p.channels) _ (λ name is.
       places-bind (offering s.objects name) _ (λ other is_other.
@@ -226,7 +228,8 @@ module _ (a : Acceptance) (s : State) (p : Process) where
       places-bind (detach_next n) _ (λ onward is_onward.
       places-bind other.base _ (λ shared is_base.
       places-some _ (two-places _ _
-      (met other _ (offering-found s.objects name other is_other).0 (detaching-none other n stands onward is_onward)))))))))
+      (met other _ (offering-found s.objects name other is_other).0
+      (detaching-none other n stands onward is_onward)))))))))
   deed_at-places (code.Spawn at v f args next) vs =
       deed-bind (slice_get a.program.procs f.0) _ (λ d declared.
       deed-bind (given p vs args d) _ (λ g is_given.
@@ -324,7 +327,8 @@ module _ (a : Acceptance) (s : State) (order : InOrder s.objects) {p r : Process
   named-own name objects stands = record {
     q = record r { channels = map (λ e. (e.0, renamed p.offers name e.1)) r.channels };
     found =
-        object_at-put r.pid (uses_instead p.offers name (object.Process r)) (object.Process stands.q) objects stands.found
+        object_at-put r.pid (uses_instead p.offers name (object.Process r)) (object.Process stands.q) objects
+        stands.found
         refl;
     same = record { code = refl; values = refl; lists = refl };
   }
@@ -463,7 +467,8 @@ module _ (a : Acceptance) (s t : State) (r q : Process) (alike : GoesOnAs r q) w
   deed-same : SameFault (deed a s r) (deed a t q)
   deed-same =
       let at : (values : List (VarId × Value)) (c : CodeId) → Option Deed =
-      λ values c. slice_get a.program.code c.0 >>= λ n. deed_by a t q n (terms_evaluation a.program values (code_terms n))
+      λ values c. slice_get a.program.code c.0 >>= λ n. deed_by a t q n
+      (terms_evaluation a.program values (code_terms n))
       in
       let here : SameFault (deed a s r) (at r.values r.code) =
       same-bind (slice_get a.program.code r.code.0) _ _ (λ n.

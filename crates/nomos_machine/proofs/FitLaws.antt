@@ -57,20 +57,23 @@ pub record Fits (a : Acceptance) (s : State) (c : Change) : Type 0 where
 
 -- ---- numbers
 
-order-with : (objects : List Object) (comes : Option Object) (n : ℕ) → InOrder objects → All (λ o. object_number o < n) objects
+order-with : (objects : List Object) (comes : Option Object) (n : ℕ) → InOrder objects
+    → All (λ o. object_number o < n) objects
     → All (λ o. object_number o ≡ n) (option_to_list comes) → InOrder (objects ++ option_to_list comes)
 order-with objects None n order below numbered = subst InOrder (sym (append-nil objects)) order
 order-with objects (Some o) n order below numbered =
     let same : object_number o ≡ n = numbered 0 o (omega arith) in
     push-order object_number o objects order
-    (All-weaker (λ e. object_number e < n) (λ e. object_number e < object_number o) (λ e lower. omega arith) objects below)
+    (All-weaker (λ e. object_number e < n) (λ e. object_number e < object_number o) (λ e lower. omega arith) objects
+    below)
 
 below-with : (objects : List Object) (comes : Option Object) (n : ℕ) → All (λ o. object_number o < n) objects
     → All (λ o. object_number o ≡ n) (option_to_list comes)
     → All (λ o. object_number o < n + length (option_to_list comes)) (objects ++ option_to_list comes)
 below-with objects None n below numbered =
     let Below : Object → Type 0 = λ e. object_number e < n + 0 in
-    All-append Below objects [] (All-weaker (λ e. object_number e < n) Below (λ e lower. omega arith) objects below) (All-nil Below)
+    All-append Below objects [] (All-weaker (λ e. object_number e < n) Below (λ e lower. omega arith) objects below)
+    (All-nil Below)
 below-with objects (Some o) n below numbered =
     let Below : Object → Type 0 = λ e. object_number e < n + 1 in
     let same : object_number o ≡ n = numbered 0 o (omega arith) in
@@ -109,11 +112,13 @@ table-with types (Some t) n table =
     let here : Below (n, t) = omega arith in
     record {
       order = push-order (λ (e : ℕ × TypeId). e.0) (n, t) types table.order table.below;
-      below = All-append Below types ((n, t) ∷ []) (All-weaker (λ e. e.0 < n) Below (λ e lower. omega arith) types table.below)
+      below = All-append Below types ((n, t) ∷ [])
+          (All-weaker (λ e. e.0 < n) Below (λ e lower. omega arith) types table.below)
           (All-cons Below (n, t) [] here (All-nil Below));
     }
 
-table-filtered : (keeps : ℕ → Bool) (types : NameTypes) (n : ℕ) → IsTable types n → IsTable (filter (λ e. keeps e.0) types) n
+table-filtered : (keeps : ℕ → Bool) (types : NameTypes) (n : ℕ) → IsTable types n
+    → IsTable (filter (λ e. keeps e.0) types) n
 table-filtered keeps types n table = record {
   order = subst (IsStrictlySortedBy nat_cmp) (sym (names-filtered keeps types))
       (IsStrictlySortedBy-filter nat_cmp keeps (map (λ t. t.0) types) table.order);
@@ -156,7 +161,8 @@ owned-tidied s c name mode.L owned = owned
 owned-tidied s c name mode.T owned = owned
 
 -- the base to which a section leads is mentioned
-leads-mentioned : (objects : List Object) (base name : ℕ) → LeadsToBase objects base name → 1 ≤ times mentioned objects base
+leads-mentioned : (objects : List Object) (base name : ℕ) → LeadsToBase objects base name
+    → 1 ≤ times mentioned objects base
 leads-mentioned objects base _ (at_base p there mode is) =
     times-contains mentioned base objects (object.Process p) there (mentions-base p base is)
 leads-mentioned objects base _ (further m name onward there provides end leads) =
@@ -168,7 +174,8 @@ section-tidied a s c name t section = record {
   base = section.base;
   leads = section.leads;
   shared = section.shared;
-  found = kept-mentioned s c section.base (leads-mentioned (made s c).objects section.base name section.leads) ∙ section.found;
+  found = kept-mentioned s c section.base (leads-mentioned (made s c).objects section.base name section.leads)
+      ∙ section.found;
   synchronizing = section.synchronizing;
 }
 
@@ -183,7 +190,8 @@ module _ (a : Acceptance) (s : State) (c : Change) (typed : IsTyped a s) (fits :
       let Before : Object → Type 0 = ObjectTyped a s.types (length s.balances) in
       let After : Object → Type 0 = ObjectTyped a (made s c).types (length s.balances) in
       let stays : (o : Object) → Before o → After o = λ o. object-kept a s.types (made s c).types (length s.balances) o
-      (λ name t there found. type_of-kept s.types (map (λ u. (s.next_name, u)) (option_to_list c.next_type)) name t found)
+      (λ name t there found. type_of-kept s.types (map (λ u. (s.next_name, u)) (option_to_list c.next_type)) name t
+      found)
       in
       made-all After s c (All-weaker Before After stays s.objects typed.each)
       (all-first After (news c.places) (option_to_list c.comes) fits.typed)
@@ -200,15 +208,19 @@ module _ (a : Acceptance) (s : State) (c : Change) (typed : IsTyped a s) (fits :
   numbered-again : Numbered (changed s c)
   numbered-again =
       let order = replaced-order c.places s.objects fits.olds fits.replaces typed.numbered.ascending in
-      let below = replaced-numbers (λ n. n < s.next_object) c.places s.objects fits.olds fits.replaces typed.numbered.below in
+      let below = replaced-numbers (λ n. n < s.next_object) c.places s.objects fits.olds fits.replaces
+      typed.numbered.below in
       let over = replaced-numbers (λ n. 0 < n) c.places s.objects fits.olds fits.replaces typed.numbered.over in
       let first : 0 < s.next_object = typed.numbered.next in
       let Over : Object → Type 0 = λ o. 0 < object_number o in
       let coming : All Over (option_to_list c.comes) =
-      All-weaker (λ o. object_number o ≡ s.next_object) Over (λ o same. omega arith) (option_to_list c.comes) fits.numbered
+      All-weaker (λ o. object_number o ≡ s.next_object) Over (λ o same. omega arith) (option_to_list c.comes)
+      fits.numbered
       in
-      let table = table-filtered (is_mentioned (made s c).objects) (made s c).types (s.next_name + length (option_to_list c.next_type))
-      (table-with s.types c.next_type s.next_name (record { order = typed.numbered.table; below = typed.numbered.names }))
+      let table = table-filtered (is_mentioned (made s c).objects) (made s c).types
+      (s.next_name + length (option_to_list c.next_type))
+      (table-with s.types c.next_type s.next_name
+      (record { order = typed.numbered.table; below = typed.numbered.names }))
       in
       record {
         ascending = order-with (put_all c.places s.objects) c.comes s.next_object order below fits.numbered;
@@ -224,7 +236,8 @@ module _ (a : Acceptance) (s : State) (c : Change) (typed : IsTyped a s) (fits :
       mentions : (name : ℕ) → IsSome (type_of (changed s c).types name) → 1 ≤ times mentioned (changed s c).objects name
       mentions name some = told (type_of (changed s c).types name) refl some
         where
-          told : (o : Option TypeId) → type_of (changed s c).types name ≡ o → IsSome o → 1 ≤ times mentioned (changed s c).objects name
+          told : (o : Option TypeId) → type_of (changed s c).types name ≡ o → IsSome o
+              → 1 ≤ times mentioned (changed s c).objects name
           told (Some t) found is = (mentioned-kept s c name t found).0
           told None found is = absurd cc
 
@@ -233,7 +246,8 @@ module _ (a : Acceptance) (s : State) (c : Change) (typed : IsTyped a s) (fits :
           let (o, there, among) = contains-times mentioned name (made s c).objects some in
           let (t, found) = object-typed a (made s c).types (length s.balances) o name
           (All-contains HasVariables (made s c).objects o made-variables there)
-          (All-contains (ObjectTyped a (made s c).types (length s.balances)) (made s c).objects o made-typed there) among
+          (All-contains (ObjectTyped a (made s c).types (length s.balances)) (made s c).objects o made-typed there)
+          among
           in
           subst IsSome (sym (kept-mentioned s c name some ∙ found)) refl
 
@@ -244,7 +258,8 @@ module _ (a : Acceptance) (s : State) (c : Change) (typed : IsTyped a s) (fits :
       let stays : (o : Object) → Contains (made s c).objects o → After o = λ o there.
       subst (λ (n : ℕ). ObjectTyped a (changed s c).types n o) (sym same-accounts)
       (object-kept a (made s c).types (changed s c).types (length s.balances) o
-      (λ name t among found. kept-mentioned s c name (times-contains mentioned name (made s c).objects o there among) ∙ found)
+      (λ name t among found. kept-mentioned s c name (times-contains mentioned name (made s c).objects o there among)
+      ∙ found)
       (All-contains Made (made s c).objects o made-typed there))
       in
       All-weaker (Contains (made s c).objects) After stays (made s c).objects (All-contains_itself (made s c).objects)

@@ -101,7 +101,8 @@ module _ {a : Acceptance} (accepted : IsAccepted a) {s : State} (typed : IsTyped
         → 1 ≤ uses-own k → k ≡ n
     only-one k u m found at_m other some =
         let variables = process-variables typed there in
-        let (w, bound_w) = bound-somewhere p.channels k variables.channels (contained k (used (object.Process p)) some) in
+        let (w, bound_w) = bound-somewhere p.channels k variables.channels
+        (contained k (used (object.Process p)) some) in
         let (t, linear, is) = linear-name accepted typed there w k u m bound_w found at_m other in
         let here : bound_to w ((v, goes.own) ∷ []) ≡ Some t = sym (ap (bound_to w) goes.only) ∙ linear in
         elim (cases_eq v.0 w) [
@@ -110,7 +111,8 @@ module _ {a : Acceptance} (accepted : IsAccepted a) {s : State} (typed : IsTyped
               subst (λ (i : ℕ). bound_to i p.channels ≡ Some k) (sym same) bound_w
               in
               one-name (sym again ∙ bound)
-          | inr apart ↦ absurd (nothing t (sym (ap (λ (b : Bool). cond b (Some goes.own) None) (ne_eqb v.0 w apart)) ∙ here))
+          | inr apart ↦ absurd (nothing t (sym (ap (λ (b : Bool). cond b (Some goes.own) None) (ne_eqb v.0 w apart))
+              ∙ here))
         ]
       where
         nothing : (t : TypeId) → None ≡ Some t → ⊥
@@ -256,14 +258,23 @@ module _ {a : Acceptance} (accepted : IsAccepted a) {s : State} (typed : IsTyped
           gone = λ apart.
               omega (arith, sum used p.offers, after p.offers, renamed-gone p.offers n (used u) apart, own-owned.1);
           taken = λ apart.
-              omega (arith, sum used n, after n, renamed-new p.offers n (used u) apart, new-used, new-owned.1, own-owned.1);
+              omega (
+                arith,
+                sum used n,
+                after n,
+                renamed-new p.offers n (used u) apart,
+                new-used,
+                new-owned.1,
+                own-owned.1,
+              );
           kept_uses = λ same k.
               omega (arith, sum used k, after k, ap (count_of k) (renamed-itself p.offers n same (used u)));
           variables = All-cons HasVariables (instead u) []
               (renamed-differ accepted s.types p.offers n own-type has.own found-own has.found alike-names u
               (All-contains HasVariables s.objects u typed.numbered.variables inside)) (All-nil HasVariables);
           typed_news = All-cons Typed (instead u) []
-              (renamed-typed accepted s.types p.offers n own-type has.own found-own has.found alike-names (length s.balances) u
+              (renamed-typed accepted s.types p.offers n own-type has.own found-own has.found alike-names
+              (length s.balances) u
               (All-contains Typed s.objects u typed.each inside)) (All-nil Typed);
           stays = λ o inside_o other_o. stay o inside_o other_o;
           even = omega (arith, instead-purse u);
@@ -281,7 +292,8 @@ module _ {a : Acceptance} (accepted : IsAccepted a) {s : State} (typed : IsTyped
                   let is : o ≡ u = one-object s.objects typed.numbered.ascending u o inside inside_o same in
                   let found_u = object_at-own u s.objects typed.numbered.ascending inside in
                   let placed : List Object = put_at (object_number u) (Some (instead u)) s.objects in
-                  let first = put-new (object_number u) (Some (instead u)) u (instead u) s.objects found_u (0, omega arith, refl) in
+                  let first = put-new (object_number u) (Some (instead u)) u (instead u) s.objects found_u
+                  (0, omega arith, refl) in
                   let apart : object_number (instead u) ≢ p.pid = λ e. other (sym (instead-number p.offers n u) ∙ e) in
                   let second = put-kept p.pid None (instead u) placed apart first in
                   let whole : Contains (made s (moves (Some u))).objects (instead u) =
@@ -327,10 +339,12 @@ module _ {a : Acceptance} (accepted : IsAccepted a) {s : State} (typed : IsTyped
           taken = λ apart. absurd (apart same);
           kept_uses = λ is k. omega (arith, sum used k);
           variables = All-cons HasVariables (instead (object.Process p)) []
-              (renamed-differ accepted s.types p.offers n own-type has.own found-own has.found alike-names (object.Process p)
+              (renamed-differ accepted s.types p.offers n own-type has.own found-own has.found alike-names
+              (object.Process p)
               (process-variables typed there)) (All-nil HasVariables);
           typed_news = All-cons Typed (instead (object.Process p)) []
-              (renamed-typed accepted s.types p.offers n own-type has.own found-own has.found alike-names (length s.balances)
+              (renamed-typed accepted s.types p.offers n own-type has.own found-own has.found alike-names
+              (length s.balances)
               (object.Process p) its) (All-nil Typed);
           stays = λ o inside other.
               let Other : ℕ × Option Object → Type 0 = λ e. e.0 ≢ object_number o in
@@ -377,7 +391,8 @@ module _ {a : Acceptance} (accepted : IsAccepted a) {s : State} (typed : IsTyped
         λ same. other (one-mode has.own has.found new-mode same),
       )
         where
-          one-mode : {j : ℕ} → (u : TypeId) → type_of s.types j ≡ Some u → HasMode a.program u mode.R → k ≡ j → m ≡ mode.R
+          one-mode : {j : ℕ} → (u : TypeId) → type_of s.types j ≡ Some u → HasMode a.program u mode.R → k ≡ j
+              → m ≡ mode.R
           one-mode {j} u found_j at_r same =
               let here : type_of s.types j ≡ Some t = subst (λ (i : ℕ). type_of s.types i ≡ Some t) same found in
               let one : t ≡ u = cc in
@@ -385,7 +400,8 @@ module _ {a : Acceptance} (accepted : IsAccepted a) {s : State} (typed : IsTyped
               mode-unique accepted.typed.formed.program at_m_too at_r
 
       -- such a name of another mode than S is not one that the process has to use
-      not-used : (k : ℕ) (t : TypeId) (m : Mode) → type_of s.types k ≡ Some t → HasMode a.program t m → m ≢ mode.S → k ≢ n
+      not-used : (k : ℕ) (t : TypeId) (m : Mode) → type_of s.types k ≡ Some t → HasMode a.program t m → m ≢ mode.S
+          → k ≢ n
           → uses-own k ≡ 0
       not-used k t m found at_m other apart =
           elim (cases_eq (uses-own k) 0) [
@@ -534,13 +550,15 @@ module _ {a : Acceptance} (accepted : IsAccepted a) {s : State} (typed : IsTyped
               → LeadsToBase after.objects base r.offers
           last r inside at_l based_r stay =
               let other : r.pid ≢ p.pid = λ same.
-              let is_p = one-object s.objects typed.numbered.ascending (object.Process p) (object.Process r) there inside same in
+              let is_p = one-object s.objects typed.numbered.ascending (object.Process p) (object.Process r) there
+              inside same in
               differ (sym at-r ∙ sym (mode-of is_p) ∙ at_l)
               in
               elim (is.stays (object.Process r) inside other) [
                 | inl kept ↦ at_base r kept at_l based_r
                 | inr changed ↦
-                    at_base (record r { channels = map (λ e. (e.0, renamed p.offers n e.1)) r.channels }) changed at_l based_r
+                    at_base (record r { channels = map (λ e. (e.0, renamed p.offers n e.1)) r.channels }) changed at_l
+                    based_r
               ]
             where
               differ : mode.R ≡ mode.L → ⊥
@@ -559,7 +577,8 @@ module _ {a : Acceptance} (accepted : IsAccepted a) {s : State} (typed : IsTyped
               ⊎ (Unit {0} × (LeadsToBase after.objects base onward → LeadsToBase after.objects base k))
           step m k onward inside provides ends stay leads_on =
               let other : m.number ≢ p.pid = λ same.
-              apart (one-object s.objects typed.numbered.ascending (object.Process p) (object.Message m) there inside same)
+              apart (one-object s.objects typed.numbered.ascending (object.Process p) (object.Message m) there inside
+              same)
               in
               elim (is.stays (object.Message m) inside other) [
                 | inl kept ↦ inr (tt, λ leads_after. further m k onward kept provides ends leads_after)
@@ -573,7 +592,8 @@ module _ {a : Acceptance} (accepted : IsAccepted a) {s : State} (typed : IsTyped
                       payload = renamed_payload p.offers n m.payload;
                     } in
                     let provides_too : Contains (provided (object.Message m_after)) k =
-                    subst (λ (ks : List ℕ). Contains ks k) (sym (instead-provides p.offers n (object.Message m))) provides
+                    subst (λ (ks : List ℕ). Contains ks k) (sym (instead-provides p.offers n (object.Message m)))
+                    provides
                     in
                     let ends_too : Contains (talk_end m_after) onward =
                     subst (λ (ks : List ℕ). Contains ks onward) (sym (instead-end p.offers n m m.to_client))
@@ -619,7 +639,8 @@ module _ {a : Acceptance} (accepted : IsAccepted a) {s : State} (typed : IsTyped
 
     -- ---- the instruction
 
-    moves-goes : (user : Option Object) → user_of s.objects p.offers ≡ user → Goes a s true (Some (changes (moves user)))
+    moves-goes : (user : Option Object) → user_of s.objects p.offers ≡ user
+        → Goes a s true (Some (changes (moves user)))
     moves-goes user found =
         let is = moved user found in
         acts (moves user) is.olds is.replaces (moved-fits user is)

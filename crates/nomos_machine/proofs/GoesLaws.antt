@@ -1,4 +1,5 @@
--- What a process of a typed state does, in one theorem's words: where one look says that it is ready, it makes a change that
+-- What a process of a typed state does, in one theorem's words: where one look says that it is ready, it makes a change
+-- that
 -- leaves the state typed and keeps all gas, or has a fault; and otherwise it does nothing.
 use Rattle.std.proofs.Common.{◌≡◌, ◌∙◌, ◌≤◌, ℕ, ◌+◌, Bool, true, false, cond, List, length, Contains, Option, Some, None, slice_get, sym, ap, arith}
 use Rattle.std.proofs.lemmas.Bool.{le-leb}
@@ -41,7 +42,8 @@ pub data Goes (a : Acceptance) (s : State) : Bool → Option Deed → Type 0 whe
 
 -- ---- what is known of a process of a typed state
 
-module _ {a : Acceptance} {s : State} (typed : IsTyped a s) {p : Process} (there : Contains s.objects (object.Process p))
+module _ {a : Acceptance} {s : State} (typed : IsTyped a s) {p : Process}
+    (there : Contains s.objects (object.Process p))
   where
     pub process-typed : ProcessTyped a s.types (length s.balances) p
     process-typed =
@@ -58,12 +60,14 @@ module _ {a : Acceptance} {s : State} (typed : IsTyped a s) {p : Process} (there
     own-is_judgement accepted =
         potential-is_judgement accepted (free_purse p) (place-is_judgement accepted process-typed.is_place)
 
-    pub own-row : IsAccepted a → (after : List Judgement) × TypingRule a.program a.annotations (own_judgement p process-typed) after
+    pub own-row : IsAccepted a → (after : List Judgement) × TypingRule a.program a.annotations
+        (own_judgement p process-typed) after
     own-row accepted = derives-row accepted.typed.formed process-typed.derives
 
     -- each judgement with which the rule goes on is one
     pub next-is_judgement : (accepted : IsAccepted a) {after : List Judgement} (k : Judgement)
-        → TypingRule a.program a.annotations (own_judgement p process-typed) after → Contains after k → IsJudgement a.program k
+        → TypingRule a.program a.annotations (own_judgement p process-typed) after → Contains after k
+        → IsJudgement a.program k
     next-is_judgement accepted {after} k row among =
         All-contains (IsJudgement a.program) after k
         (row-keeps_judgement accepted.typed.formed (own-is_judgement accepted) row) among

@@ -30,7 +30,8 @@ use Rattle.std.proofs.lemmas.List.Elements.{All-contains}
 
 module _ {a : Acceptance} (accepted : IsAccepted a) where
   -- a name that has a type of the first mode, and is alike to a type of the second, has one mode
-  pub named-mode : (types : NameTypes) (name : ℕ) (t u : TypeId) (m n : Mode) → NameHasType a.program a.annotations types name t
+  pub named-mode : (types : NameTypes) (name : ℕ) (t u : TypeId) (m n : Mode)
+      → NameHasType a.program a.annotations types name t
       → HasMode a.program t n → type_of types name ≡ Some u → HasMode a.program u m → m ≡ n
   named-mode types name t u m n has at_n found at_m =
       let formed = accepted.typed.formed.program in
@@ -96,7 +97,8 @@ based-shared {a} {s} accepted typed name u m found at_m other =
       | inl none ↦ none
       | inr some ↦
           let (o, there, among) = contains-times based name s.objects (omega arith) in
-          absurd (no-base o (All-contains (ObjectTyped a s.types (length s.balances)) s.objects o typed.each there) among)
+          absurd (no-base o (All-contains (ObjectTyped a s.types (length s.balances)) s.objects o typed.each there)
+          among)
     ]
   where
     from-base : (b : Option ℕ) (p : Process) → p.base ≡ b → HasBase a.program s.types p

@@ -56,7 +56,8 @@ module _ {X Y : Type 0} {R : X → Y → Type 0} (channels : List (VarId × X)) 
             subst At (sym same) here
         | inr other ↦
             paired-as (bound-after_bind_other w v x channels other)
-            (ap (λ (o : Option Y). option_or o (bound_to w linear)) (bound-after_bind_other w v y shared other)) (holds w)
+            (ap (λ (o : Option Y). option_or o (bound_to w linear)) (bound-after_bind_other w v y shared other))
+            (holds w)
       ]
 
   -- a channel that is used exactly once is gone
@@ -81,7 +82,8 @@ module _ {X Y : Type 0} {R : X → Y → Type 0} (channels : List (VarId × X)) 
 
 -- ---- no variable stands twice
 
-counted-alike : {X Y : Type 0} {R : X → Y → Type 0} {o : Option X} {q : Option Y} → Paired R o q → count_one o ≡ count_one q
+counted-alike : {X Y : Type 0} {R : X → Y → Type 0} {o : Option X} {q : Option Y} → Paired R o q
+    → count_one o ≡ count_one q
 counted-alike (both related) = refl
 counted-alike neither = refl
 

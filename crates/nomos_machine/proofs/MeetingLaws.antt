@@ -172,7 +172,8 @@ module _ {a : Acceptance} (accepted : IsAccepted a) {s : State} (typed : IsTyped
         )
 
     -- it goes on at mode L under another name, with its own one as base
-    pub accepts-typed : (next : CodeId) (after : List Judgement) (t : TypeId) → TypingRule a.program a.annotations own after
+    pub accepts-typed : (next : CodeId) (after : List Judgement) (t : TypeId)
+        → TypingRule a.program a.annotations own after
         → after ≡ record own { mode = mode.L; offers = t; code = next } ∷ [] → (name : ℕ) (body : TypeId) (base : ℕ)
         (shared : TypeId) → type_of later name ≡ Some body → AlikeTypes a.program a.annotations body t
         → type_of s.types base ≡ Some shared → HasMode a.program shared mode.S
@@ -238,7 +239,8 @@ module _ {a : Acceptance} (accepted : IsAccepted a) {s : State} (typed : IsTyped
         )
 
     -- it goes on at mode S under another name, and has no base
-    pub detaches-typed : (next : CodeId) (after : List Judgement) (t : TypeId) → TypingRule a.program a.annotations own after
+    pub detaches-typed : (next : CodeId) (after : List Judgement) (t : TypeId)
+        → TypingRule a.program a.annotations own after
         → after ≡ record own { mode = mode.S; offers = t; code = next } ∷ [] → (name : ℕ)
         → NameHasType a.program a.annotations later name t
         → ProcessTyped a later (length s.balances)

@@ -149,7 +149,8 @@ below-first true e types name n t here lower found rest =
 below-first false e types name n t here lower found rest = rest found
 
 -- a name that has a type is below each number that all names of the table are below
-pub type_of-below : (types : NameTypes) (name n : ℕ) (t : TypeId) → All (λ e. e.0 < n) types → type_of types name ≡ Some t
+pub type_of-below : (types : NameTypes) (name n : ℕ) (t : TypeId) → All (λ e. e.0 < n) types
+    → type_of types name ≡ Some t
     → name < n
 type_of-below [] name n t below found = absurd cc
 type_of-below (e ∷ types) name n t below found =
@@ -185,7 +186,8 @@ module _ (keeps : ℕ → Bool) where
   filtered-first : (b c : Bool) (e : ℕ × TypeId) (types : NameTypes) (name : ℕ) → keeps e.0 ≡ b → (e.0 == name) ≡ c
       → keeps name ≡ true → type_of (filtered types) name ≡ type_of types name
       → type_of (cond b (e ∷ filtered types) (filtered types)) name ≡ first_or c e types name
-  filtered-first true true e types name here same kept rest = type_of-first e (filtered types) name (eqb-true e.0 name same)
+  filtered-first true true e types name here same kept rest = type_of-first e (filtered types) name
+      (eqb-true e.0 name same)
   filtered-first true false e types name here same kept rest =
       type_of-further e (filtered types) name (eqb-false e.0 name same) ∙ rest
   filtered-first false true e types name here same kept rest =

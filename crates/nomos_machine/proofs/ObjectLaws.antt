@@ -29,7 +29,8 @@ use Rattle.nomos_machine.specs.declared.object.Process.{Process}
 
 -- these names have the types in the second table that they have in the first
 abbrev pub Keep : (ℕ → Type 0) → NameTypes → NameTypes → Type 0
-Keep names types others = (name : ℕ) (t : TypeId) → names name → type_of types name ≡ Some t → type_of others name ≡ Some t
+Keep names types others = (name : ℕ) (t : TypeId) → names name → type_of types name ≡ Some t
+    → type_of others name ≡ Some t
 
 -- where both are there, they are related in another way
 pub paired-weaker : {X Y : Type 0} (R S : X → Y → Type 0) (o : Option X) (r : Option Y) → Paired R o r
@@ -60,7 +61,8 @@ module _ (lists : ProgramLists) (x : Annotations) (types others : NameTypes) whe
 
   goes-kept : (next : Option ℕ) (goes : Option TypeId) → Keep (Contains (option_to_list next)) types others
       → GoesOnAt lists x types next goes → GoesOnAt lists x others next goes
-  goes-kept (Some name) (Some t) kept goes = of_type-kept name t (λ u found. kept name u (0, omega arith, refl) found) goes
+  goes-kept (Some name) (Some t) kept goes = of_type-kept name t (λ u found. kept name u (0, omega arith, refl) found)
+      goes
   goes-kept (Some name) None kept goes = goes
   goes-kept None (Some t) kept goes = goes
   goes-kept None None kept goes = goes
@@ -70,7 +72,8 @@ module _ (lists : ProgramLists) (x : Annotations) (types others : NameTypes) whe
 pub mentions-offer : (p : Process) → Contains (mentioned (object.Process p)) p.offers
 mentions-offer p = (0, omega arith, refl)
 
-among-first : (t : Bool) (e : VarId × ℕ) (b : List (VarId × ℕ)) (v name : ℕ) → cond t (Some e.1) (bound_to v b) ≡ Some name
+among-first : (t : Bool) (e : VarId × ℕ) (b : List (VarId × ℕ)) (v name : ℕ)
+    → cond t (Some e.1) (bound_to v b) ≡ Some name
     → (bound_to v b ≡ Some name → Contains (map (λ d. d.1) b) name) → Contains (e.1 ∷ map (λ d. d.1) b) name
 among-first true e b v name is rest =
     let same : e.1 ≡ name = cc in
@@ -101,7 +104,8 @@ data Part (from : ℕ) (next : Option ℕ) (brought : Payload) (name : ℕ) : Ty
 
 among-parts : (way : Bool) (from : ℕ) (next : Option ℕ) (brought : Payload) (name : ℕ) → Part from next brought name
     → Contains
-    ((if way then from ∷ [] else option_to_list next) ++ ((if way then option_to_list next else from ∷ []) ++ carried brought) ++ []) name
+    ((if way then from ∷ [] else option_to_list next)
+    ++ ((if way then option_to_list next else from ∷ []) ++ carried brought) ++ []) name
 among-parts true from next brought name (on there) =
     Contains-append_left ((from ∷ []) ++ (option_to_list next ++ carried brought)) [] name
     (Contains-append_left (from ∷ []) (option_to_list next ++ carried brought) name there)
@@ -128,7 +132,8 @@ among-parts false from next brought name (inside there) =
 pub mentions-from : (m : Message) → Contains (mentioned (object.Message m)) m.from
 mentions-from m = among-parts m.to_client m.from m.next m.payload m.from (on (0, omega arith, refl))
 
-pub mentions-next : (m : Message) (name : ℕ) → Contains (option_to_list m.next) name → Contains (mentioned (object.Message m)) name
+pub mentions-next : (m : Message) (name : ℕ) → Contains (option_to_list m.next) name
+    → Contains (mentioned (object.Message m)) name
 mentions-next m name there = among-parts m.to_client m.from m.next m.payload name (onward there)
 
 pub mentions-carried : (m : Message) (name : ℕ) → Contains (carried m.payload) name
@@ -151,7 +156,8 @@ module _ (a : Acceptance) (types others : NameTypes) where
         (λ u found. kept p.offers u (mentions-offer p) found) matches.offers;
     values = matches.values;
     held_lists = matches.held_lists;
-    channels = λ v. paired-weaker (NameHasType a.program a.annotations types) (NameHasType a.program a.annotations others)
+    channels = λ v. paired-weaker (NameHasType a.program a.annotations types)
+        (NameHasType a.program a.annotations others)
         (bound_to v p.channels) (option_or (bound_to v j.shared) (bound_to v j.linear)) (matches.channels v)
         (λ name t bound is. of_type-kept a.program a.annotations types others name t
         (λ u found. kept name u (mentions-channel p v name bound) found) is);
@@ -214,7 +220,8 @@ of_type-found : (lists : ProgramLists) (x : Annotations) (types : NameTypes) (na
     → NameHasType lists x types name t → HasType types name
 of_type-found lists x types name t is = (is.own, is.found)
 
-brings-typed : (lists : ProgramLists) (x : Annotations) (types : NameTypes) (way : Bool) (node : TypeNode) (brought : Payload)
+brings-typed : (lists : ProgramLists) (x : Annotations) (types : NameTypes) (way : Bool) (node : TypeNode)
+    (brought : Payload)
     (gas : ℕ) (goes : Option TypeId) (name : ℕ) → Brings lists x types way node brought gas goes
     → Contains (carried brought) name → HasType types name
 brings-typed lists x types _ _ _ _ _ name (own_label branches l t goes) there = absurd (omega (arith, there.1))
@@ -229,7 +236,8 @@ brings-typed lists x types _ _ _ _ _ name (own_potential r t) there = absurd (om
 brings-typed lists x types _ _ _ _ _ name (other_potential r t) there = absurd (omega (arith, there.1))
 brings-typed lists x types _ _ _ _ _ name end there = absurd (omega (arith, there.1))
 
-next-typed : (lists : ProgramLists) (x : Annotations) (types : NameTypes) (next : Option ℕ) (goes : Option TypeId) (name : ℕ)
+next-typed : (lists : ProgramLists) (x : Annotations) (types : NameTypes) (next : Option ℕ) (goes : Option TypeId)
+    (name : ℕ)
     → GoesOnAt lists x types next goes → Contains (option_to_list next) name → HasType types name
 next-typed lists x types (Some k) (Some t) name goes there =
     subst (HasType types) (contains-one k name there) (of_type-found lists x types k t goes)
@@ -238,7 +246,8 @@ next-typed lists x types None goes name goes_on there = absurd (omega (arith, th
 
 parts-of : (way : Bool) (from : ℕ) (next : Option ℕ) (brought : Payload) (name : ℕ)
     → Contains
-    ((if way then from ∷ [] else option_to_list next) ++ ((if way then option_to_list next else from ∷ []) ++ carried brought) ++ []) name
+    ((if way then from ∷ [] else option_to_list next)
+    ++ ((if way then option_to_list next else from ∷ []) ++ carried brought) ++ []) name
     → Part from next brought name
 parts-of true from next brought name there =
     elim (Contains-append_cases ((from ∷ []) ++ (option_to_list next ++ carried brought)) [] name there) [
@@ -274,11 +283,13 @@ message-typed a types m name typed (on there) =
 message-typed a types m name typed (onward there) =
     next-typed a.program a.annotations types m.next typed.goes name typed.next there
 message-typed a types m name typed (inside there) =
-    brings-typed a.program a.annotations types m.to_client typed.head m.payload m.purse typed.goes name typed.brings there
+    brings-typed a.program a.annotations types m.to_client typed.head m.payload m.purse typed.goes name typed.brings
+    there
 
 -- a variable is bound to each thing that stands in a map
 unbound-first : (t : Bool) (v : ℕ) (e : VarId × ℕ) (b : List (VarId × ℕ)) (name : ℕ)
-    → bound_to v (cond t b (e ∷ unbind v b)) ≡ None → bound_to v b ≡ Some name → cond t (Some e.1) (bound_to v b) ≡ Some name
+    → bound_to v (cond t b (e ∷ unbind v b)) ≡ None → bound_to v b ≡ Some name
+    → cond t (Some e.1) (bound_to v b) ≡ Some name
 unbound-first true v e b name none found = absurd (differ (sym none ∙ found))
   where
     differ : {X : Type 0} {x : X} → None ≡ Some x → ⊥

@@ -121,7 +121,8 @@ says_first = record {
 
 -- the other label is not awaited yet, and nobody says anything where nobody is outside
 last_too_early : MayNotSay forwarding listening last_said
-last_too_early gas (goes, may) = none (may_say-awaits first_awaited may refl refl (constructor 10 first_awaited refl tt))
+last_too_early gas (goes, may) =
+    none (may_say-awaits first_awaited may refl refl (constructor 10 first_awaited refl tt))
   where
     none : {gas : ℕ} {goes : TypeId} → ¬ (Awaits forwarding first_awaited last_said gas goes)
     none (label _ _ t is) = absurd cc
@@ -279,7 +280,8 @@ says_nine = record {
 
 -- one of another kind is not
 truth_not_said : MayNotSay every_row awaits_value (said.Value (truth true))
-truth_not_said gas (goes, may) = none (may_say-awaits value_awaited may refl refl (constructor 15 value_awaited refl tt))
+truth_not_said gas (goes, may) =
+    none (may_say-awaits value_awaited may refl refl (constructor 15 value_awaited refl tt))
   where
     none : {gas : ℕ} {goes : TypeId} → ¬ (Awaits every_row value_awaited (said.Value (truth true)) gas goes)
     none (value _ _ _ has) =

@@ -27,7 +27,8 @@ pub made-times : (does : Object → List ℕ) (name : ℕ) (s : State) (c : Chan
     ≡ times does s.objects name + times does (news c.places) name + times does (option_to_list c.comes) name
 made-times does name s c olds replaces = made-weight (λ o. count_of name (does o)) s c olds replaces
 
--- A name has as many providers and users as before. For a shared name only those count that stand for it, for all others
+-- A name has as many providers and users as before. For a shared name only those count that stand for it, for all
+-- others
 -- only its providers and its users.
 pub record CountsAsBefore (m : Mode) (before after : State) (name : ℕ) : Type 0 where
   pub provided : m ≢ mode.S → times provided after.objects name ≡ times provided before.objects name
@@ -61,7 +62,8 @@ module _ {a : Acceptance} {s : State} (typed : IsTyped a s) where
   next-unmentioned =
       elim (cases_eq (times mentioned s.objects s.next_name) 0) [
         | inl none ↦ none
-        | inr some ↦ absurd (typed-below (type_of s.types s.next_name) refl ((typed.numbered.typed s.next_name).1 (omega arith)))
+        | inr some ↦ absurd (typed-below (type_of s.types s.next_name) refl
+            ((typed.numbered.typed s.next_name).1 (omega arith)))
       ]
     where
       typed-below : (o : Option TypeId) → type_of s.types s.next_name ≡ o → IsSome o → ⊥

@@ -137,7 +137,8 @@ run-keeps {a} accepted s t [] typed is =
   where
     one-state : Some s ≡ Some t → s ≡ t
     one-state e = cc
-run-keeps {a} accepted s t (pid ∷ pids) typed is = at (step a s pid) refl is (λ u keeps. run-keeps accepted u t pids keeps.typed)
+run-keeps {a} accepted s t (pid ∷ pids) typed is =
+    at (step a s pid) refl is (λ u keeps. run-keeps accepted u t pids keeps.typed)
   where
     at : (o : Option State) → step a s pid ≡ o → (o >>= λ next. run a next pids) ≡ Some t
         → ((u : State) → Keeps a s u → run a u pids ≡ Some t → IsTyped a t × (gas_of t ≡ gas_of u))

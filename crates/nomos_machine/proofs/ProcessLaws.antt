@@ -47,7 +47,8 @@ module _ {lists : ProgramLists} {x : Annotations} where
   first-alike neither other = other
 
   paired-through : {types : NameTypes} {o : Option ℕ} {q r : Option TypeId} → (formed : IsWellFormed lists)
-      → Paired (NameHasType lists x types) o q → Paired (AlikeTypes lists x) q r → Paired (NameHasType lists x types) o r
+      → Paired (NameHasType lists x types) o q → Paired (AlikeTypes lists x) q r
+      → Paired (NameHasType lists x types) o r
   paired-through formed (both has) (both alike) =
       both (record { own = has.own; found = has.found; alike = alike_types-through formed.program has.alike alike })
   paired-through formed neither neither = neither

@@ -26,8 +26,10 @@ HasNumber n new = All (λ o. object_number o ≡ n) (option_to_list new)
 
 placed-weight : (f : Object → ℕ) (new : Option Object) (e o : Object) (objects after : List Object) (t : Bool)
     → cond t (Some e) (object_at objects (object_number o)) ≡ Some o
-    → (object_at objects (object_number o) ≡ Some o → sum_by f after + f o ≡ sum_by f objects + sum_by f (option_to_list new))
-    → sum_by f (cond t (option_to_list new ++ objects) (e ∷ after)) + f o ≡ sum_by f (e ∷ objects) + sum_by f (option_to_list new)
+    → (object_at objects (object_number o) ≡ Some o → sum_by f after + f o ≡ sum_by f objects + sum_by f
+    (option_to_list new))
+    → sum_by f (cond t (option_to_list new ++ objects) (e ∷ after)) + f o ≡ sum_by f (e ∷ objects) + sum_by f
+    (option_to_list new)
 placed-weight f new e o objects after true found rest =
     let same : e ≡ o = cc in
     let weighs : f e ≡ f o = ap f same in
@@ -73,7 +75,8 @@ object_at-found n o (e ∷ objects) found =
     found-number n e o objects (object_number e == n) refl found (object_at-found n o objects)
 
 -- the first object has this number, or it stands further on
-pub object_at-first : (n : ℕ) (e : Object) (objects : List Object) → object_number e ≡ n → object_at (e ∷ objects) n ≡ Some e
+pub object_at-first : (n : ℕ) (e : Object) (objects : List Object) → object_number e ≡ n
+    → object_at (e ∷ objects) n ≡ Some e
 object_at-first n e objects same = ap (λ t. cond t (Some e) (object_at objects n)) (eq-eqb (object_number e) n same)
 
 pub object_at-further : (n : ℕ) (e : Object) (objects : List Object) → object_number e ≢ n
@@ -107,7 +110,8 @@ object_at-own o (e ∷ objects) order there =
           object_at-first (object_number o) e objects (ap object_number same) ∙ ap Some same
       | inr further ↦
           let lower : object_number e < object_number o =
-          over-each (object_number e) o objects (sorted_head nat_cmp (object_number e) (map object_number objects) order) further
+          over-each (object_number e) o objects (sorted_head nat_cmp (object_number e) (map object_number objects)
+          order) further
           in
           let other : object_number e ≢ object_number o = omega arith in
           object_at-further (object_number o) e objects other
@@ -117,7 +121,8 @@ object_at-own o (e ∷ objects) order there =
 -- ---- which objects there are
 
 placed-all : (P : Object → Type 0) (new : Option Object) (e : Object) (objects after : List Object) (t : Bool)
-    → All P (e ∷ objects) → All P (option_to_list new) → All P after → All P (cond t (option_to_list new ++ objects) (e ∷ after))
+    → All P (e ∷ objects) → All P (option_to_list new) → All P after
+    → All P (cond t (option_to_list new ++ objects) (e ∷ after))
 placed-all P new e objects after true all here rest =
     All-append P (option_to_list new) objects here (All-tail P e objects all)
 placed-all P new e objects after false all here rest = All-cons P e after (All-head P e objects all) rest
@@ -131,7 +136,8 @@ put-all P n new (e ∷ objects) all here =
     (put-all P n new objects (All-tail P e objects all) here)
 
 placed-kept : (n : ℕ) (new : Option Object) (e o : Object) (objects after : List Object) (t : Bool)
-    → (object_number e == n) ≡ t → object_number o ≢ n → Contains (e ∷ objects) o → (Contains objects o → Contains after o)
+    → (object_number e == n) ≡ t → object_number o ≢ n → Contains (e ∷ objects) o
+    → (Contains objects o → Contains after o)
     → Contains (cond t (option_to_list new ++ objects) (e ∷ after)) o
 placed-kept n new e o objects after true here other there rest =
     elim (Contains-append_cases (e ∷ []) objects o there) [
@@ -154,7 +160,8 @@ put-kept n new o (e ∷ objects) other there =
 
 placed-new : (n : ℕ) (new : Option Object) (e o q : Object) (objects after : List Object) (t : Bool)
     → cond t (Some e) (object_at objects n) ≡ Some o → Contains (option_to_list new) q
-    → (object_at objects n ≡ Some o → Contains after q) → Contains (cond t (option_to_list new ++ objects) (e ∷ after)) q
+    → (object_at objects n ≡ Some o → Contains after q) → Contains (cond t (option_to_list new ++ objects) (e ∷ after))
+    q
 placed-new n new e o q objects after true found there rest = Contains-append_left (option_to_list new) objects q there
 placed-new n new e o q objects after false found there rest = Contains-append_right (e ∷ []) after q (rest found)
 
@@ -205,7 +212,8 @@ object_at-put n q o (e ∷ objects) found numbered =
 
 -- ---- the order of numbers
 
-order-cons : (e : Object) (objects : List Object) → AllOver (object_number e) objects → InOrder objects → InOrder (e ∷ objects)
+order-cons : (e : Object) (objects : List Object) → AllOver (object_number e) objects → InOrder objects
+    → InOrder (e ∷ objects)
 unfolding IsStrictlySortedBy
 order-cons e objects over order = (over, order)
 
@@ -227,7 +235,8 @@ put-over m n new (e ∷ objects) numbered over =
     placed-over m n new e objects (put_at n new objects) (object_number e == n) refl numbered over
     (put-over m n new objects numbered over.1)
 
-placed-order : (n : ℕ) (new : Option Object) (e : Object) (objects : List Object) (t : Bool) → (object_number e == n) ≡ t
+placed-order : (n : ℕ) (new : Option Object) (e : Object) (objects : List Object) (t : Bool)
+    → (object_number e == n) ≡ t
     → HasNumber n new → InOrder (e ∷ objects) → InOrder (put_at n new objects)
     → InOrder (cond t (option_to_list new ++ objects) (e ∷ put_at n new objects))
 placed-order n None e objects true here numbered order rest =
@@ -237,11 +246,13 @@ placed-order n (Some q) e objects true here numbered order rest =
     eqb-true (object_number e) n here ∙ sym (All-head (λ o. object_number o ≡ n) q [] numbered)
     in
     order-cons q objects
-    (subst (λ (k : ℕ). AllOver k objects) same (sorted_head nat_cmp (object_number e) (map object_number objects) order))
+    (subst (λ (k : ℕ). AllOver k objects) same (sorted_head nat_cmp (object_number e) (map object_number objects)
+    order))
     (sorted_tail nat_cmp (object_number e) (map object_number objects) order)
 placed-order n new e objects false here numbered order rest =
     order-cons e (put_at n new objects)
-    (put-over (object_number e) n new objects numbered (sorted_head nat_cmp (object_number e) (map object_number objects) order))
+    (put-over (object_number e) n new objects numbered
+    (sorted_head nat_cmp (object_number e) (map object_number objects) order))
     rest
 
 -- objects stand in order afterwards as before

@@ -47,7 +47,8 @@ module _ (old new : ℕ) where
   renamed-other name other = ap (λ (t : Bool). cond t new name) (ne_eqb name old other)
 
   -- a third name occurs as often as before
-  pub renamed-third : (k : ℕ) (names : List ℕ) → k ≢ old → k ≢ new → count_of k (map (renamed old new) names) ≡ count_of k names
+  pub renamed-third : (k : ℕ) (names : List ℕ) → k ≢ old → k ≢ new
+      → count_of k (map (renamed old new) names) ≡ count_of k names
   renamed-third k [] not_old not_new = refl
   renamed-third k (n ∷ names) not_old not_new =
       let rest = renamed-third k names not_old not_new in
@@ -63,7 +64,8 @@ module _ (old new : ℕ) where
             kept k n (renamed old new n) is names (map (renamed old new) names) rest
       ]
     where
-      kept : (k n m : ℕ) → m ≡ n → (xs ys : List ℕ) → count_of k ys ≡ count_of k xs → count_of k (m ∷ ys) ≡ count_of k (n ∷ xs)
+      kept : (k n m : ℕ) → m ≡ n → (xs ys : List ℕ) → count_of k ys ≡ count_of k xs
+          → count_of k (m ∷ ys) ≡ count_of k (n ∷ xs)
       kept k n m is xs ys rest =
           elim (cases_eq n k) [
             | inl here ↦ count-here k m ys (is ∙ here) ∙ ap (λ (c : ℕ). 1 + c) rest ∙ sym (count-here k n xs here)
@@ -122,7 +124,8 @@ module _ (old new : ℕ) where
       elim (cases_eq n old) [
         | inl is ↦
             let here : renamed old new n ≡ n = ap (renamed old new) is ∙ renamed-old ∙ same ∙ sym is in
-            ap (λ (k : ℕ). k ∷ map (renamed old new) names) here ∙ ap (λ (ks : List ℕ). n ∷ ks) (renamed-itself same names)
+            ap (λ (k : ℕ). k ∷ map (renamed old new) names) here
+            ∙ ap (λ (ks : List ℕ). n ∷ ks) (renamed-itself same names)
         | inr other ↦
             ap (λ (k : ℕ). k ∷ map (renamed old new) names) (renamed-other n other)
             ∙ ap (λ (ks : List ℕ). n ∷ ks) (renamed-itself same names)
@@ -206,7 +209,8 @@ module _ {a : Acceptance} (accepted : IsAccepted a) (types : NameTypes) (old new
   renamed-has_type name t has =
       elim (cases_eq name old) [
         | inl same ↦
-            let found : type_of types old ≡ Some has.own = subst (λ (n : ℕ). type_of types n ≡ Some has.own) same has.found in
+            let found : type_of types old ≡ Some has.own = subst (λ (n : ℕ). type_of types n ≡ Some has.own) same
+            has.found in
             let one : has.own ≡ old_type = cc in
             let through : AlikeTypes a.program a.annotations new_type t =
             alike_types-through accepted.typed.formed.program alike
@@ -218,7 +222,8 @@ module _ {a : Acceptance} (accepted : IsAccepted a) (types : NameTypes) (old new
             let is : renamed old new name ≡ new = ap (renamed old new) same ∙ renamed-old old new in
             subst (λ (n : ℕ). NameHasType a.program a.annotations types n t) (sym is) here
         | inr other ↦
-            subst (λ (n : ℕ). NameHasType a.program a.annotations types n t) (sym (renamed-other old new name other)) has
+            subst (λ (n : ℕ). NameHasType a.program a.annotations types n t) (sym (renamed-other old new name other))
+            has
       ]
 
   renamed-variables : (p : Process) → VariablesDiffer p
@@ -270,7 +275,8 @@ module _ {a : Acceptance} (accepted : IsAccepted a) (types : NameTypes) (old new
       → Brings a.program a.annotations types way node (renamed_payload old new brought) gas goes
   renamed-brings _ _ _ _ _ (own_label branches l t goes) = own_label branches l t goes
   renamed-brings _ _ _ _ _ (other_label branches l t goes) = other_label branches l t goes
-  renamed-brings _ _ _ _ _ (own_channel sent t name is) = own_channel sent t (renamed old new name) (renamed-has_type name sent is)
+  renamed-brings _ _ _ _ _ (own_channel sent t name is) = own_channel sent t (renamed old new name)
+      (renamed-has_type name sent is)
   renamed-brings _ _ _ _ _ (other_channel sent t name is) =
       other_channel sent t (renamed old new name) (renamed-has_type name sent is)
   renamed-brings _ _ _ _ _ (own_value kind t v has) = own_value kind t v has
@@ -300,7 +306,8 @@ module _ {a : Acceptance} (accepted : IsAccepted a) (types : NameTypes) (old new
   brings-alike : (head other : TypeNode) (brought : Payload) (gas : ℕ) (goes : Option TypeId)
       → SameHead a.annotations (AlikeTypes a.program a.annotations) other head
       → Brings a.program a.annotations types false head brought gas goes
-      → (rest : Option TypeId) × Brings a.program a.annotations types false other brought gas rest × AlikeRests rest goes
+      → (rest : Option TypeId) × Brings a.program a.annotations types false other brought gas rest
+      × AlikeRests rest goes
   brings-alike _ _ _ _ _ (with others branches same) (other_label _ l t goes) =
       let (u, found, alike_u) = branch-there others branches l t (same l) goes in
       (Some u, other_label others l u found, both alike_u)
@@ -314,7 +321,8 @@ module _ {a : Acceptance} (accepted : IsAccepted a) (types : NameTypes) (old new
         found = has.found;
         alike = alike_types-through accepted.typed.formed.program has.alike (alike_types-back alike_u);
       }
-  brings-alike _ _ _ _ _ (value_in kind c d rest) (other_value _ _ v has) = (Some c, other_value kind c v has, both rest)
+  brings-alike _ _ _ _ _ (value_in kind c d rest) (other_value _ _ v has) =
+      (Some c, other_value kind c v has, both rest)
   brings-alike _ _ _ _ _ (pot_in q r c d amount rest) (other_potential _ _) = (
     Some c,
     subst (λ (g : ℕ). Brings a.program a.annotations types false (node.PotIn q c) payload.Pay g (Some c)) amount
@@ -350,7 +358,8 @@ module _ {a : Acceptance} (accepted : IsAccepted a) (types : NameTypes) (old new
   -- a message to the provider is read on a name of an alike type, where that was renamed
   moved-message : (from : ℕ) (brought : Payload) (gas : ℕ) (next : Option ℕ) (own : TypeId) (head : TypeNode)
       (goes : Option TypeId) → type_of types from ≡ Some own → Unfolds a.program own.0 head
-      → Brings a.program a.annotations types false head brought gas goes → GoesOnAt a.program a.annotations types next goes
+      → Brings a.program a.annotations types false head brought gas goes
+      → GoesOnAt a.program a.annotations types next goes
       → (u : TypeId) × (h : TypeNode) × (rest : Option TypeId) × (type_of types (renamed old new from) ≡ Some u)
       × Unfolds a.program u.0 h × Brings a.program a.annotations types false h brought gas rest
       × GoesOnAt a.program a.annotations types next rest
@@ -358,7 +367,8 @@ module _ {a : Acceptance} (accepted : IsAccepted a) (types : NameTypes) (old new
       elim (cases_eq from old) [
         | inl same ↦
             let is : own ≡ old_type = one-type same in
-            let here : Unfolds a.program old_type.0 head = subst (λ (u : TypeId). Unfolds a.program u.0 head) is unfolds in
+            let here : Unfolds a.program old_type.0 head = subst (λ (u : TypeId). Unfolds a.program u.0 head) is
+            unfolds in
             let back = alike_types-back alike in
             let formed = accepted.typed.formed in
             let (h, there, same_head) = equal-unfolded a.program a.annotations old_type new_type head back.equal here in
@@ -398,25 +408,29 @@ module _ {a : Acceptance} (accepted : IsAccepted a) (types : NameTypes) (old new
           })
       by-way true is = record {
         own = t.own;
-        found = subst (λ (w : Bool). type_of types (if w then m.from else renamed old new m.from) ≡ Some t.own) (sym is) t.found;
+        found = subst (λ (w : Bool). type_of types (if w then m.from else renamed old new m.from) ≡ Some t.own) (sym is)
+            t.found;
         head = t.head;
         unfolds = t.unfolds;
         goes = t.goes;
         brings = renamed-brings m.to_client t.head m.payload m.purse t.goes t.brings;
         next = subst (λ (w : Bool). GoesOnAt a.program a.annotations types
-            (if w then option_map (renamed old new) m.next else m.next) t.goes) (sym is) (renamed-next m.next t.goes t.next);
+            (if w then option_map (renamed old new) m.next else m.next) t.goes) (sym is)
+            (renamed-next m.next t.goes t.next);
       }
       by-way false is =
           let brings = subst (λ (w : Bool). Brings a.program a.annotations types w t.head
           (renamed_payload old new m.payload) m.purse t.goes) is
           (renamed-brings m.to_client t.head m.payload m.purse t.goes t.brings)
           in
-          let (own, head, rest, found, unfolds, brought, goes_on) = moved-message m.from (renamed_payload old new m.payload) m.purse
+          let (own, head, rest, found, unfolds, brought, goes_on) =
+          moved-message m.from (renamed_payload old new m.payload) m.purse
           m.next t.own t.head t.goes t.found t.unfolds brings t.next
           in
           record {
             own = own;
-            found = subst (λ (w : Bool). type_of types (if w then m.from else renamed old new m.from) ≡ Some own) (sym is) found;
+            found = subst (λ (w : Bool). type_of types (if w then m.from else renamed old new m.from) ≡ Some own)
+                (sym is) found;
             head = head;
             unfolds = unfolds;
             goes = rest;

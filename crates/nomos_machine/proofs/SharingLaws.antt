@@ -126,7 +126,8 @@ module _ {a : Acceptance} {s : State} (typed : IsTyped a s) {p other : Process}
   messages-kept : (m : Message) → Contains s.objects (object.Message m)
       → Contains (made s goes).objects (object.Message m)
   messages-kept m inside =
-      others-kept (object.Message m) inside (λ is. numbers-differ s.objects typed.numbered.ascending p m there inside (sym is))
+      others-kept (object.Message m) inside (λ is. numbers-differ s.objects typed.numbered.ascending p m there inside
+      (sym is))
       (λ is. numbers-differ s.objects typed.numbered.ascending other m there_other inside (sym is))
 
   -- ---- where names of mode L lead

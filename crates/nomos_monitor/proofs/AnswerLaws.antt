@@ -17,7 +17,8 @@ use Rattle.nomos_monitor.specs.declared.refusal.TalkRefusal.TheVariants as refus
 
 module _ {a : Acceptance} (accepted : IsAccepted a) {s : State} {name : List ℕ} {account : ℕ} where
   -- a refusal has one cause
-  pub one-refusal : (why other : TalkRefusal) → IsTalkRefused a s name account why → IsTalkRefused a s name account other
+  pub one-refusal : (why other : TalkRefusal) → IsTalkRefused a s name account why
+      → IsTalkRefused a s name account other
       → why ≡ other
   one-refusal _ _ (no_account none) (no_account more) = refl
   one-refusal _ _ (no_account none) (no_process there missing) = absurd (omega (arith, none, there))

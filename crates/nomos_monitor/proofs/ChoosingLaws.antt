@@ -25,7 +25,8 @@ one-declaration is = cc
 abbrev pub OpensBy : ProcDecl → List ℕ → Type 0
 OpensBy d name = (d.name ≡ name) × (d.mode ≡ mode.R) × (d.values ≡ []) × (d.channels ≡ [])
 
-module _ (a : Acceptance) (name : List ℕ) (number : ℕ) (d : ProcDecl) (declared : slice_get a.program.procs number ≡ Some d)
+module _ (a : Acceptance) (name : List ℕ) (number : ℕ) (d : ProcDecl)
+    (declared : slice_get a.program.procs number ≡ Some d)
     (here : Bool) (opens : IsTrue here ↔ OpensBy d name) where
   pub not-opener : here ≡ false → (e : ProcDecl) → IsOpenerNamed a name number e → ⊥
   not-opener fails e is =

@@ -47,7 +47,8 @@ fired-numbers accepted {s = s} {t = t} typed fired few objects names =
     }
 
 -- whatever a firing answers, a talk is one then
-pub look-talk : {a : Acceptance} → IsAccepted a → {s t : State} {account : ℕ} (pid : ℕ) (answer : Fire) → IsTalk a s account
+pub look-talk : {a : Acceptance} → IsAccepted a → {s t : State} {account : ℕ} (pid : ℕ) (answer : Fire)
+    → IsTalk a s account
     → Fires a s pid answer t → IsTalk a t account
 look-talk accepted {s} {t} {account} pid fire.Fired talk fires = fires-talk accepted s t pid talk fires
 look-talk {a} accepted {account = account} pid (fire.Faulted f) talk fires =

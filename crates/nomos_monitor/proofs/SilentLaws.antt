@@ -104,17 +104,20 @@ module _ {a : Acceptance} (accepted : IsAccepted a) {s : State} (typed : IsTyped
           let keeps = changed-keeps_types s c in
           elim (cases_eq old p.offers) [
             | inl same ↦
-                let its : type_of s.types p.offers ≡ Some t = subst (λ (n : ℕ). type_of s.types n ≡ Some t) same before in
+                let its : type_of s.types p.offers ≡ Some t = subst (λ (n : ℕ). type_of s.types n ≡ Some t) same
+                before in
                 let (u, found_u, equal) = forward-equal p there v goes f.name f.bound t its in
                 let is_new : f.name ≡ name =
                 sym (ap (renamed p.offers f.name) same ∙ renamed-old p.offers f.name) ∙ one some in
-                let there_u : type_of s.types name ≡ Some u = subst (λ (n : ℕ). type_of s.types n ≡ Some u) is_new found_u in
+                let there_u : type_of s.types name ≡ Some u = subst (λ (n : ℕ). type_of s.types n ≡ Some u) is_new
+                found_u in
                 let is_u = one-type typed keeps name u own there_u found in
                 subst (CarriesNothing a.program) is_u
                 (carries-nothing-equal accepted.typed.formed.program a.annotations equal silent)
             | inr other ↦
                 let is_old : old ≡ name = sym (renamed-other p.offers f.name old other) ∙ one some in
-                let there_t : type_of s.types name ≡ Some t = subst (λ (n : ℕ). type_of s.types n ≡ Some t) is_old before in
+                let there_t : type_of s.types name ≡ Some t = subst (λ (n : ℕ). type_of s.types n ≡ Some t) is_old
+                before in
                 let is_t = one-type typed keeps name t own there_t found in
                 subst (CarriesNothing a.program) is_t silent
           ]

@@ -88,7 +88,13 @@ hears-spoken {a} {s} {t} {account} {what} typed name h =
       processes = λ r there. inl (before (object.Process r) (shorter (object.Process r) there));
       stays = λ r there. inl (stays r there);
       messages = λ m there.
-          inl (record { other = m; there = before (object.Message m) (shorter (object.Message m) there); way = refl; name = refl });
+          inl (record {
+            other = m;
+            there = before (object.Message m) (shorter (object.Message m) there);
+            way =
+                refl;
+            name = refl;
+          });
     })
   where
     left : List Object

@@ -67,8 +67,9 @@ pub enum TalkOpening<'a, M: Talking> {
     NoMemory(M),
 }
 
-/// Opens a talk: a process of the declaration of this name comes, the account gives its declared potential, and the name
-/// that it offers is the party's. Each refusal, and want of memory, hands the machine back with the state as it was.
+/// Opens a talk: a process of the declaration of this name comes, the account gives its declared potential, and the
+/// name that it offers is the party's. Each refusal, and want of memory, hands the machine back with the state as it
+/// was.
 pub fn open_talk<'a, M: Talking>(
     alloc: Global,
     accepted: &'a Accepted,
@@ -208,7 +209,8 @@ impl<'a, M: Talking> OutsideTalk<'a, M> {
         requires objects { self.old.state.next_object + limit < 2 ^ 32 }
         requires names { self.old.state.next_name + limit < 2 ^ 32 }
         ensures ok { IfOk result (λ r. ComesToRest self.old.a limit self.old.state r.made r.how self.new.state) }
-        ensures only { (made : ℕ) (how : CameToRest) (t : State) → ComesToRest self.old.a limit self.old.state made how t
+        ensures only { (made : ℕ) (how : CameToRest) (t : State)
+            → ComesToRest self.old.a limit self.old.state made how t
             → IfOk result (λ r. (made ≡ r.made) × (how ≡ r.how) × (t ≡ self.new.state)) }
         ensures err { OnErr result (FiresSome self.old.a limit self.old.state self.new.state) }
         ensures same { (self.new.a ≡ self.old.a) × (self.new.account ≡ self.old.account) }

@@ -88,8 +88,8 @@ impl<M: Talking> Running<M> {
         Ok(answer)
     }
 
-    /// Opens a talk with a declaration. Where no process was ready before, only the one that comes may be. Want of memory
-    /// leaves the state as it was.
+    /// Opens a talk with a declaration. Where no process was ready before, only the one that comes may be. Want of
+    /// memory leaves the state as it was.
     pub(crate) fn start_outside(
         &mut self,
         alloc: Global,
@@ -148,8 +148,8 @@ impl<M: Talking> Running<M> {
         Ok(())
     }
 
-    /// Hears what is there to be heard. Who may be ready stays, since a message leaves and nothing comes. Want of memory
-    /// leaves the state as it was.
+    /// Hears what is there to be heard. Who may be ready stays, since a message leaves and nothing comes. Want of
+    /// memory leaves the state as it was.
     pub(crate) fn hear(
         &mut self,
         alloc: Global,

@@ -42,7 +42,8 @@ read-does way name (object.Message m) is = by_way way m.to_client refl both.0
     by_way true true to same =
         subst (λ (b : Bool). 1 ≤ count_of name (cond b (m.from ∷ []) (option_to_list m.next))) (sym to) (first [])
     by_way false false to same =
-        subst (λ (b : Bool). 1 ≤ count_of name (cond b (option_to_list m.next) (m.from ∷ []) ++ carried m.payload)) (sym to)
+        subst (λ (b : Bool). 1 ≤ count_of name (cond b (option_to_list m.next) (m.from ∷ []) ++ carried m.payload))
+        (sym to)
         (first (carried m.payload))
     by_way true false to same = absurd cc
     by_way false true to same = absurd cc

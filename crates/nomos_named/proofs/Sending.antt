@@ -1,4 +1,5 @@
--- An indexed state may go to another thread. What it keeps of values leads to a type that holds itself, for which no law
+-- An indexed state may go to another thread. What it keeps of values leads to a type that holds itself, for which no
+-- law
 -- stands by itself, so the parts stand apart here.
 use denote.Param.Send.{IsSend, sendable}
 use Rattle.std.proofs.Crossing as crossing

@@ -43,8 +43,8 @@ fn tidy_suspects(inside: &mut Inside, tallies: &mut Tallies)
 }
 
 impl Tallied {
-    /// The gaps that objects and names left, which came since the mark, are closed where they are many. It takes no room
-    /// and no memory. Over many calls it costs no more than there were objects and names that left.
+    /// The gaps that objects and names left, which came since the mark, are closed where they are many. It takes no
+    /// room and no memory. Over many calls it costs no more than there were objects and names that left.
     pub(crate) fn close_gaps(&mut self)
         ensures state { self.new.state ≡ self.old.state }
         ensures room { self.new.room ≡ self.old.room }
@@ -54,8 +54,8 @@ impl Tallied {
         self.tallies.close_gaps();
     }
 
-    /// Names that no object mentions have no type any more; gaps are closed then, where they are many. It takes no room.
-    /// Only suspects are asked, where they are known.
+    /// Names that no object mentions have no type any more; gaps are closed then, where they are many. It takes no
+    /// room. Only suspects are asked, where they are known.
     #[inline(always)]
     pub(crate) fn tidy(&mut self)
         ensures state { self.new.state ≡ tidied self.old.state }

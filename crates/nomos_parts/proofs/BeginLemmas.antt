@@ -18,7 +18,8 @@ pub if-told : {X : Type 0} (P : X → Type 0) (o : Option X) (x : X) → o ≡ S
 if-told P o x is told = subst (λ o. IfSome o P) is told
 
 -- the same where something is said of what is not there too
-pub match-told : {X : Type 0} (A : Type 0) (P : X → Type 0) (o : Option X) (x : X) → o ≡ Some x → MatchOption o A P → P x
+pub match-told : {X : Type 0} (A : Type 0) (P : X → Type 0) (o : Option X) (x : X) → o ≡ Some x → MatchOption o A P
+    → P x
 match-told A P o x is told = subst (λ o. MatchOption o A P) is told
 
 pub record SameBegun (d e : ProcDecl) (args others : Args) (g h : Given) (payer own : ℕ) : Type 0 where

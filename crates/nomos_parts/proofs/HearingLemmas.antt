@@ -154,7 +154,8 @@ pub listened-is : (s left paid gone u : State) (m : Message) (number purse name 
     → number ≡ m.number → purse ≡ m.purse → name ≡ m.from → next ≡ m.next → left ≡ without_object number s
     → paid ≡ with_got account purse left → gone ≡ going_on name next paid → u ≡ tidied gone
     → u ≡ changed s (hears s m account)
-listened-is s left paid gone u m number purse name account next number_is purse_is name_is next_is left_is paid_is gone_is
+listened-is s left paid gone u m number purse name account next number_is purse_is name_is next_is left_is paid_is
+    gone_is
     after =
     let first : left ≡ without_object m.number s =
     left_is ∙ ap (λ (n : ℕ). without_object n s) number_is in

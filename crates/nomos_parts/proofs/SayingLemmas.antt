@@ -51,7 +51,8 @@ pub spoken-is : (s came named paid gone u : State) (name number next purse cost 
     → came ≡ with_object (message_of number name next brings purse) s → named ≡ with_name goes came
     → paid ≡ with_paid account cost named → gone ≡ with_renamed name next paid → u ≡ tidied gone
     → u ≡ changed s (says s name brings goes account gas)
-spoken-is s came named paid gone u name number next purse cost gas account brings goes number_is next_is purse_is cost_is
+spoken-is s came named paid gone u name number next purse cost gas account brings goes number_is next_is purse_is
+    cost_is
     came_is named_is paid_is gone_is after =
     let first : came ≡ with_object (message_of s.next_object name s.next_name brings gas) s =
     came_is

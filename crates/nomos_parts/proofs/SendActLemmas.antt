@@ -122,7 +122,8 @@ module _ (a : Acceptance) (s : State) (p : Process) (c : Chan) (goes : TypeId) (
       let after = standing_at next (under_name c s.next_name q) in
       let message = object.Message (message_sent s (is_own c) from brought gas) in
       ap (with_name goes) (becomes-before s pid p message there after)
-      ∙ same-state (with_name goes (with_object message (with_process pid after s))) (made s (sent_change brought gas q from))
+      ∙ same-state (with_name goes (with_object message (with_process pid after s)))
+      (made s (sent_change brought gas q from))
       (ap (λ (n : ℕ). put_at n (Some (object.Process after)) s.objects ++ message ∷ []) (sym number))
       refl refl refl refl (omega arith) (sym (append-nil s.results)) refl
       ∙ ap (made s) (sym is)

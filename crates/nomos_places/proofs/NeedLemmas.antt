@@ -298,7 +298,8 @@ AreKnown a below spares leasts = (j : Judgement) → StandsIn a j → j.code.0 <
 
 -- one instruction more
 pub known-more : {a : Acceptance} (accepted : IsAccepted a) (potentials spares leasts : List ℕ) (at q : ℕ)
-    (n : CodeNode) → ArePotentialsAt a potentials → slice_get potentials at ≡ Some q → slice_get a.program.code at ≡ Some n
+    (n : CodeNode) → ArePotentialsAt a potentials → slice_get potentials at ≡ Some q
+    → slice_get a.program.code at ≡ Some n
     → at ≡ length spares → at ≡ length leasts → AreKnown a at spares leasts
     → AreKnown a (at + 1) (spares ++ spare_at a spares q n ∷ []) (leasts ++ (q - spare_at a spares q n) ∷ [])
 known-more {a} accepted potentials spares leasts at q n potentials_are here node spares_long leasts_long known j stands

@@ -239,7 +239,8 @@ module _ {a : Acceptance} (accepted : IsAccepted a) (p : ℕ) (d : ProcDecl)
         told-form e among =
             let at = are.only e among in
             let under = under-there at.judgement at.account at.reached in
-            let ignored : under.judgement.code ≡ at.judgement.code = ap (λ (i : Judgement). i.code) under.under.ignored in
+            let ignored : under.judgement.code ≡ at.judgement.code =
+            ap (λ (i : Judgement). i.code) under.under.ignored in
             record {
               judgement = under.judgement;
               stands = follows-stands under.judgement under.follows;

@@ -116,7 +116,8 @@ module _ (lists : ProgramLists) (x : Annotations) (m : ℕ) where
   value-with (passing.term without kind) = passing.term without kind
   value-with (passing.list amount is found) = passing.list amount is found
 
-  values-with : {j : Judgement} {args : List ValueArg} {pars : List Par} {k : Judgement} → PassesValues lists x j args pars k
+  values-with : {j : Judgement} {args : List ValueArg} {pars : List Par} {k : Judgement}
+      → PassesValues lists x j args pars k
       → PassesValues lists x (with_potential j m) args pars (with_potential k m)
   values-with passing.none = passing.none
   values-with (passing.value first others) = passing.value (value-with first) (values-with others)

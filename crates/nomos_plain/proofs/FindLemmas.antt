@@ -39,11 +39,13 @@ message_kept o = message_of (object_in o)
 abbrev pub number_kept : PlainObject → ℕ
 number_kept o = object_number (object_in o)
 
-kept-mapped : (o : Option PlainObject) → option_and_then process_of (option_map object_in o) ≡ option_and_then process_kept o
+kept-mapped : (o : Option PlainObject) → option_and_then process_of (option_map object_in o) ≡ option_and_then
+    process_kept o
 kept-mapped (Some o) = refl
 kept-mapped None = refl
 
-message-mapped : (o : Option PlainObject) → option_and_then message_of (option_map object_in o) ≡ option_and_then message_kept o
+message-mapped : (o : Option PlainObject) → option_and_then message_of (option_map object_in o) ≡ option_and_then
+    message_kept o
 message-mapped (Some o) = refl
 message-mapped None = refl
 

@@ -30,7 +30,8 @@ set-first n new (o ∷ objects) within = at (object_number (object_in o) == n) w
   where
     at : (b : Bool) → cond (not b) (1 + place n objects) 0 < suc (length objects)
         → (place n objects < length objects
-        → map object_in (slice_set objects (place n objects) new) ≡ put_at n (Some (object_in new)) (map object_in objects))
+        → map object_in (slice_set objects (place n objects) new) ≡ put_at n (Some (object_in new))
+        (map object_in objects))
         → map object_in (slice_set (o ∷ objects) (cond (not b) (1 + place n objects) 0) new)
         ≡ cond b (object_in new ∷ map object_in objects)
         (object_in o ∷ put_at n (Some (object_in new)) (map object_in objects))
@@ -75,7 +76,8 @@ number-first : (n : ℕ) (d : PlainObject) (objects : List PlainObject) → plac
 number-first n d [] within = absurd (omega (arith, within))
 number-first n d (o ∷ objects) within = at (object_number (object_in o) == n) refl within (number-first n d objects)
   where
-    at : (b : Bool) → (object_number (object_in o) == n) ≡ b → cond (not b) (1 + place n objects) 0 < suc (length objects)
+    at : (b : Bool) → (object_number (object_in o) == n) ≡ b
+        → cond (not b) (1 + place n objects) 0 < suc (length objects)
         → (place n objects < length objects
         → object_number (object_in (slice_index_or objects (place n objects) d)) ≡ n)
         → object_number (object_in (slice_index_or (o ∷ objects) (cond (not b) (1 + place n objects) 0) d)) ≡ n
@@ -123,7 +125,8 @@ module _ (n at : ℕ) (objects : List PlainObject) (found : position (has_number
       subst (λ i. map object_in (remove objects i) ≡ put_at n None (map object_in objects)) told.1
       (removed-first n objects told.0)
 
-  pub place_found : (d : PlainObject) → object_at (map object_in objects) n ≡ Some (object_in (slice_index_or objects at d))
+  pub place_found : (d : PlainObject) → object_at (map object_in objects) n ≡ Some
+      (object_in (slice_index_or objects at d))
   place_found d =
       subst (λ i. object_at (map object_in objects) n ≡ Some (object_in (slice_index_or objects i d))) told.1
       (found-first n d objects told.0)
@@ -142,7 +145,8 @@ place_none n objects found = from (nat_lt (place n objects) (length objects)) re
     from true less is = absurd cc
     from false less is = none-first n objects (omega (arith, ltb-false (place n objects) (length objects) less))
 
-put-absent : (n : ℕ) (new : Option Object) (objects : List Object) → object_at objects n ≡ None → put_at n new objects ≡ objects
+put-absent : (n : ℕ) (new : Option Object) (objects : List Object) → object_at objects n ≡ None
+    → put_at n new objects ≡ objects
 put-absent n new [] none = refl
 put-absent n new (o ∷ objects) none = at (object_number o == n) none (put-absent n new objects)
   where

@@ -20,15 +20,18 @@ module _ (s t u : State) (pid own : ℕ) (o : Object)
   put-taken =
       put
       ∙ ap (λ (t : State). with_objects (put_at own (Some o) t.objects) t) taken
-      ∙ ap (λ (n : ℕ). with_objects (put_at n (Some o) (put_at pid (Some (object.Message (hole pid))) s.objects)) s) same
+      ∙ ap (λ (n : ℕ). with_objects (put_at n (Some o) (put_at pid (Some (object.Message (hole pid))) s.objects)) s)
+      same
       ∙ ap (λ os. with_objects os s) (put_in_hole pid o s.objects)
 
   pub put-taken_back : (p : Process) → process_at s pid ≡ Some p → o ≡ object.Process p → u ≡ s
   put-taken_back p there is =
       put
       ∙ ap (λ (t : State). with_objects (put_at own (Some o) t.objects) t) taken
-      ∙ ap (λ (n : ℕ). with_objects (put_at n (Some o) (put_at pid (Some (object.Message (hole pid))) s.objects)) s) same
-      ∙ ap (λ (o : Object). with_objects (put_at pid (Some o) (put_at pid (Some (object.Message (hole pid))) s.objects)) s) is
+      ∙ ap (λ (n : ℕ). with_objects (put_at n (Some o) (put_at pid (Some (object.Message (hole pid))) s.objects)) s)
+      same
+      ∙ ap (λ (o : Object). with_objects (put_at pid (Some o) (put_at pid (Some (object.Message (hole pid))) s.objects))
+      s) is
       ∙ ap (λ os. with_objects os s) (put_back pid p s.objects there)
 
   -- which is another process at the number, of what was taken out

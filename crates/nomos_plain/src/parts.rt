@@ -85,7 +85,7 @@ fn drop_unmentioned(objects: &[PlainObject], types: &mut Vec<(u32, TypeId)>)
 
 impl PlainParts {
     /// Takes out the process of this number; a hole stands there meanwhile.
-    #[tactic(auto, using(crate::proofs::PlaceLemmas::place_within, crate::proofs::PlaceLemmas::place_set, crate::proofs::PlaceLemmas::place_found))]
+    #[tactic(auto, using(crate::proofs::PlaceLemmas::place_within, crate::proofs::PlaceLemmas::place_set, crate::proofs::PlaceLemmas::place_found,))]
     pub(crate) fn take(&mut self, pid: u32) -> Option<PlainProcess>
         requires { IsSound self.old }
         ensures found { (p : Process) → process_at (state_of self.old) pid ≡ Some p
@@ -110,7 +110,7 @@ impl PlainParts {
     }
 
     /// Puts a process where one of its number stands, or a hole.
-    #[tactic(auto, using(crate::proofs::PlaceLemmas::place_within, crate::proofs::PlaceLemmas::place_set, crate::proofs::PlaceLemmas::put_nowhere))]
+    #[tactic(auto, using(crate::proofs::PlaceLemmas::place_within, crate::proofs::PlaceLemmas::place_set, crate::proofs::PlaceLemmas::put_nowhere,))]
     pub(crate) fn put(&mut self, process: PlainProcess)
         requires sound { IsSound self.old }
         requires channels { vec_len process.channels + self.old.room ≤ vec_capacity process.channels }

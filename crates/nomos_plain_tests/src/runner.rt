@@ -189,8 +189,9 @@ impl<M: Machine> Runner<M> {
         }
     }
 
-    /// Fires the process of this number, where it is ready and stands at an instruction that takes no memory where there
-    /// is room for a firing. Memory may be wanting for the room, and then nothing is fired; behind it none is wanting.
+    /// Fires the process of this number, where it is ready and stands at an instruction that takes no memory where
+    /// there is room for a firing. Memory may be wanting for the room, and then nothing is fired; behind it none is
+    /// wanting.
     pub fn fire_in_room(&mut self, alloc: Global, pid: u32) -> Result<Option<Fire>, AllocError>
         ensures accepted { self.new.accepted ≡ self.old.accepted }
         ensures fires { IfOk result (λ fired. IfSome fired (λ answer.

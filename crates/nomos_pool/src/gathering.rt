@@ -103,8 +103,8 @@ fn senders_of<T: Drop>(hands: Vec<Hand<T>>, mut room: Vec<Sender<T>>) -> Vec<Sen
     room
 }
 
-/// Which thread submits which item: at place k of `threads` stands that of the item at place k, counted from 0, and there
-/// are `count` threads.
+/// Which thread submits which item: at place k of `threads` stands that of the item at place k, counted from 0, and
+/// there are `count` threads.
 #[derive(Clone, Copy, Drop, Debug)]
 pub struct Shares<'a> {
     pub threads: &'a [usize],
@@ -124,7 +124,8 @@ pub fn gather_dealt<T: Drop + Send, G: Gate, R: Threads + Wait + Sync>(
     requires some { 0 < shares.count }
     requires many { length shares.threads.now ≡ length items.items }
     requires threads { All (λ j. j < shares.count) shares.threads.now }
-    ensures { IfOk result (λ gathered. IsGathering shares.entry.count shares.entry.threads.now items.items gathered.items) }
+    ensures { IfOk result (λ gathered. IsGathering shares.entry.count shares.entry.threads.now items.items
+        gathered.items) }
 {
     let Ready {
         pool,

@@ -102,11 +102,13 @@ module _ (a : Acceptance) (v : Version) (most : ℕ) where
   carries-fired begun w u {start} {source} {after} {l} carries read by first all items batch told same =
       let asks : Asks v most l w by.pid = record { says = by.says; left = by.left } in
       let goes : Goes a first all (fires v told (under_way batch w) items) l
-      (fires v told (record (under_way batch w) { firings = pids_of w.firings ++ by.pid ∷ []; state = u.state }) items) =
+      (fires v told (record (under_way batch w) { firings = pids_of w.firings ++ by.pid ∷ []; state = u.state })
+      items) =
       stand.firing v told (under_way batch w) items l by.pid u.state (asks-says told same batch asks) by.fired.steps
       by.line
       in
-      let there = subst (λ (x : UnderWay). Goes a first all (fires v told (under_way batch w) items) l (fires v told x items))
+      let there = subst (λ (x : UnderWay). Goes a first all (fires v told (under_way batch w) items) l
+      (fires v told x items))
       (fired-under_way batch by.pid w u by.fired) goes in
       carries-on a first all (carries first all items batch told same) (carries-line a first all read there)
 
@@ -126,7 +128,8 @@ module _ (a : Acceptance) (v : Version) (most : ℕ) where
           → ¬ MayStand (fires v told (under_way batch w) items) m
       no-form m never none (stand.firing v2 told2 run items2 m2 pid says) = none pid (says-asks told same batch says)
       no-form m never none (stand.batch_end v2 told2 run items2 kept) = never kept refl
-  stops-firing accepted w {source} {after} {l} read no_end (error.NotEnabled n pid) stops first all items batch told same =
+  stops-firing accepted w {source} {after} {l} read no_end (error.NotEnabled n pid) stops first all items batch told
+      same =
       subst (λ (k : ℕ). Reads a first all (source.at + 1) (fires v told (under_way batch w) items) source.lines
       (Err (error.NotEnabled k pid))) (sym stops.0)
       (stops-spoiled a first all read
@@ -157,7 +160,8 @@ module _ (a : Acceptance) (v : Version) (most : ℕ) where
   pub stops-end : (w : WorldState) {source after : Source} (kept : Kept)
       → HasRead a.annotations.unit source (line.End kept.end) after → kept.at ≡ after.at → (e : ReplayError)
       → EndStops a w.state (length w.firings) most kept e → (first : LedgerState) (all items : List ScriptItem)
-      (batch : Batch) (told : Told) → next_limit told ≡ most → Stops a first all source (fires v told (under_way batch w) items) e
+      (batch : Batch) (told : Told) → next_limit told ≡ most
+      → Stops a first all source (fires v told (under_way batch w) items) e
   stops-end w kept read at error.NoMemory stops first all items batch told same = tt
   stops-end w {source} {after} kept read at (error.WrongEnd n e found) stops first all items batch told same =
       let count : ℕ → Type 0 = λ n. IsAllowed a w.state n (next_limit told) kept.end in

@@ -67,9 +67,12 @@ module _ (a : Acceptance) where
   no-items =
       answers.reads (Ok (nothing_told empty_ledger 9)) (omega arith)
       (answers.goes 1 stand.at_head (stand.at_steps version.Two) (head_bytes ++ steps_bytes) steps_bytes
-      (line.Head version.Two) (Ok (nothing_told empty_ledger 9)) (record { is = tt; joined = refl }) (stand.head version.Two)
-      (answers.goes 2 (stand.at_steps version.Two) (stand.before version.Two (nothing_told empty_ledger 9) []) steps_bytes []
-      (line.Steps 9) (Ok (nothing_told empty_ledger 9)) (record { is = omega arith; joined = steps-joined a.annotations.unit [] }) (stand.steps version.Two 9 nine)
+      (line.Head version.Two) (Ok (nothing_told empty_ledger 9)) (record { is = tt; joined = refl })
+      (stand.head version.Two)
+      (answers.goes 2 (stand.at_steps version.Two) (stand.before version.Two (nothing_told empty_ledger 9) [])
+      steps_bytes []
+      (line.Steps 9) (Ok (nothing_told empty_ledger 9))
+      (record { is = omega arith; joined = steps-joined a.annotations.unit [] }) (stand.steps version.Two 9 nine)
       (answers.ends 3 version.Two (nothing_told empty_ledger 9))))
 
   abbrev one_item : ScriptItem
@@ -85,16 +88,21 @@ module _ (a : Acceptance) where
   owes_deposit = stand.owes version.Two (nothing_told empty_ledger 9) one_item 1 end.Deposited after_deposit []
 
   -- what is answered behind the third line is answered of the text
-  third-line : (rest : List ℕ) (answer : Result Told ReplayError) → answers.Reads a empty_ledger (one_item ∷ []) 4 owes_deposit rest answer
-      → answers.Reads a empty_ledger (one_item ∷ []) 1 stand.at_head (head_bytes ++ steps_bytes ++ line_bytes ++ rest) answer
+  third-line : (rest : List ℕ) (answer : Result Told ReplayError)
+      → answers.Reads a empty_ledger (one_item ∷ []) 4 owes_deposit rest answer
+      → answers.Reads a empty_ledger (one_item ∷ []) 1 stand.at_head (head_bytes ++ steps_bytes ++ line_bytes ++ rest)
+      answer
   third-line rest answer reads =
       answers.goes 1 stand.at_head (stand.at_steps version.Two) (head_bytes ++ steps_bytes ++ line_bytes ++ rest)
       (steps_bytes ++ line_bytes ++ rest) (line.Head version.Two) answer (record { is = tt; joined = refl })
       (stand.head version.Two)
-      (answers.goes 2 (stand.at_steps version.Two) (stand.before version.Two (nothing_told empty_ledger 9) (one_item ∷ []))
+      (answers.goes 2 (stand.at_steps version.Two)
+      (stand.before version.Two (nothing_told empty_ledger 9) (one_item ∷ []))
       (steps_bytes ++ line_bytes ++ rest) (line_bytes ++ rest) (line.Steps 9) answer
-      (record { is = omega arith; joined = steps-joined a.annotations.unit (line_bytes ++ rest) }) (stand.steps version.Two 9 nine)
-      (answers.goes 3 (stand.before version.Two (nothing_told empty_ledger 9) (one_item ∷ [])) owes_deposit (line_bytes ++ rest) rest
+      (record { is = omega arith; joined = steps-joined a.annotations.unit (line_bytes ++ rest) })
+      (stand.steps version.Two 9 nine)
+      (answers.goes 3 (stand.before version.Two (nothing_told empty_ledger 9) (one_item ∷ [])) owes_deposit
+      (line_bytes ++ rest) rest
       (line.Line 1) answer (record { is = omega arith; joined = line-joined a.annotations.unit rest })
       (stand.item_line version.Two (nothing_told empty_ledger 9) one_item [] 1 owes_deposit refl
       (stand.deposit 1 (codes "u") 2 end.Deposited after_deposit deposits))
@@ -111,7 +119,8 @@ module _ (a : Acceptance) where
       (stand.before version.Two
       (told_with (nothing_told empty_ledger 9) (still one_item (bare 1 end.Deposited) empty_ledger after_deposit)) [])
       (codes "end deposited" ++ 10 ∷ []) [] (line.End end.Deposited) _ (record { is = tt; joined = refl })
-      (stand.own_end version.Two (nothing_told empty_ledger 9) one_item 1 end.Deposited after_deposit [] end.Deposited refl)
+      (stand.own_end version.Two (nothing_told empty_ledger 9) one_item 1 end.Deposited after_deposit [] end.Deposited
+      refl)
       (answers.ends 5 version.Two
       (told_with (nothing_told empty_ledger 9) (still one_item (bare 1 end.Deposited) empty_ledger after_deposit))))
 
@@ -123,7 +132,8 @@ module _ (a : Acceptance) where
       third-line (codes "end committed" ++ 10 ∷ []) (Err (error.WrongEnd 4 end.Committed (Some end.Deposited)))
       (answers.spoils 4 owes_deposit (codes "end committed" ++ 10 ∷ []) [] (line.End end.Committed)
       (error.WrongEnd 4 end.Committed (Some end.Deposited)) (record { is = tt; joined = refl })
-      (spoiled.not_own_end version.Two (nothing_told empty_ledger 9) one_item 1 end.Deposited after_deposit [] end.Committed
+      (spoiled.not_own_end version.Two (nothing_told empty_ledger 9) one_item 1 end.Deposited after_deposit []
+      end.Committed
       (λ same. cc)))
 
   -- a batch without lines under way, after these firings
@@ -138,7 +148,8 @@ module _ (a : Acceptance) where
       (record { process = refl; left = omega arith }) refl
 
   -- under version 2 the number of a process alone is no firing
-  number-alone : stand.MayStand (stand.fires version.Two (nothing_told empty_ledger 9) (way_after []) []) (line.Pid 1) → ⊥
+  number-alone : stand.MayStand (stand.fires version.Two (nothing_told empty_ledger 9) (way_after []) []) (line.Pid 1)
+      → ⊥
   number-alone (stand.firing v told run items l pid says) = none-some pid says.process
 
   -- and nothing fires past the limit

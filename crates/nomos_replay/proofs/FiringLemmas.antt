@@ -22,7 +22,8 @@ module _ (a : Acceptance) (v : Version) (most : ℕ) (l : JournalLine) (before a
   Tells same = (s : State) (p : Process) → process_at s pid ≡ Some p → p.code ≡ place
       → (IsTrue same ↔ (firing_line v a s pid ≡ Some l))
 
-  has-fired : (fired : Bool) → fired ≡ true → FiresOrNot a before pid fired after → HasFired a before (firing_by pid) after
+  has-fired : (fired : Bool) → fired ≡ true → FiresOrNot a before pid fired after
+      → HasFired a before (firing_by pid) after
   has-fired true is fires = fires
   has-fired false is fires = absurd (false≢true is)
 

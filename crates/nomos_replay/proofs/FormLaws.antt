@@ -71,7 +71,8 @@ code-among : (P : Amount → Type 0) (nodes : List CodeNode) (c : ℕ) (n : Code
 code-among P [] c n all found = absurd cc
 code-among P (m ∷ nodes) zero n all found =
     let same : m ≡ n = cc in
-    subst (λ (e : CodeNode). All P (code_amounts e)) same (all-first P (code_amounts m) (flat_map code_amounts nodes) all)
+    subst (λ (e : CodeNode). All P (code_amounts e)) same
+    (all-first P (code_amounts m) (flat_map code_amounts nodes) all)
 code-among P (m ∷ nodes) (suc c) n all found =
     code-among P nodes c n (all-last P (code_amounts m) (flat_map code_amounts nodes) all) found
 
@@ -80,7 +81,8 @@ proc-among : (P : Amount → Type 0) (procs : List ProcDecl) (c : ℕ) (d : Proc
 proc-among P [] c d all found = absurd cc
 proc-among P (e ∷ procs) zero d all found =
     let same : e ≡ d = cc in
-    subst (λ (x : ProcDecl). All P (proc_amounts x)) same (all-first P (proc_amounts e) (flat_map proc_amounts procs) all)
+    subst (λ (x : ProcDecl). All P (proc_amounts x)) same
+    (all-first P (proc_amounts e) (flat_map proc_amounts procs) all)
 proc-among P (e ∷ procs) (suc c) d all found =
     proc-among P procs c d (all-last P (proc_amounts e) (flat_map proc_amounts procs) all) found
 
@@ -163,7 +165,8 @@ module _ {a : Acceptance} (accepted : IsAccepted a) where
           subst (λ (o : Option CodeNode). All IsLine (option_to_list (option_map (fired_line a.annotations pid) o)))
           (sym there)
           (All-cons IsLine (fired_line a.annotations pid n) []
-          (fired-form pid n (found-small typed numbered few pid p found) (code-small p.code.0 n there)) (All-nil IsLine))
+          (fired-form pid n (found-small typed numbered few pid p found) (code-small p.code.0 n there))
+          (All-nil IsLine))
       at None there =
           subst (λ (o : Option CodeNode). All IsLine (option_to_list (option_map (fired_line a.annotations pid) o)))
           (sym there) (All-nil IsLine)
@@ -259,7 +262,8 @@ module _ {a : Acceptance} (accepted : IsAccepted a) where
       let typed_last = (run-keeps accepted start last pids typed reaches.reached).0 in
       let whole : run a start (take (length pids) pids) ≡ Some last =
       ap (run a start) (take_all (length pids) pids (omega arith)) ∙ reaches.reached in
-      let ended = end-form (length pids) most typed_last (numbered (length pids) last whole) few small e reaches.allowed in
+      let ended = end-form (length pids) most typed_last (numbered (length pids) last whole) few small e
+      reaches.allowed in
       let lines : List JournalLine = firing_lines v a start pids ++ line.End e ∷ [] in
       All-append IsLine (line.Line b.line ∷ lines) []
       (All-cons IsLine (line.Line b.line) lines (omega (arith, written))
@@ -279,13 +283,15 @@ module _ {a : Acceptance} (accepted : IsAccepted a) where
       two-forms b.line (end.Refused at cause) written.0 (omega (arith, is.0), is.1)
   passage-form v {most} (passage.stays l b starts pids last begun reaches) few small standing numbers written =
       run-form v b starts pids last end.Committed most few small standing begun reaches numbers.firings written.0
-  passage-form v {most} (passage.undone l b starts pids last e begun reaches undoes) few small standing numbers written =
+  passage-form v {most} (passage.undone l b starts pids last e begun reaches undoes) few small standing numbers
+      written =
       run-form v b starts pids last e most few small standing begun reaches numbers.firings written.0
   passage-form v (passage.shown l at) few small standing numbers written = All-nil IsLine
 
   -- ---- journals
 
-  leads-form : (v : Version) {limit made n : ℕ} {l last : LedgerState} {ps : List Passage} → Leads a limit made l ps last
+  leads-form : (v : Version) {limit made n : ℕ} {l last : LedgerState} {ps : List Passage}
+      → Leads a limit made l ps last
       → n + 2 ≤ 2 ^ 32 → limit < 2 ^ 32 → StandsNamed a l → All (PassageNumbers a n) ps
       → All IsWrittenItem (map (λ p. p.item) ps) → All IsLine (flat_map (passage_lines v a) ps)
   leads-form v (legal.done made l) few small standing numbers written = All-nil IsLine
@@ -313,7 +319,8 @@ module _ {a : Acceptance} (accepted : IsAccepted a) where
       (legal-numbers-from accepted tells (2 ^ 31) standing numbers) items_written))
 
   -- so it is from the empty one
-  pub journal-form : {items : List ScriptItem} {journal : Journal} {ps : List Passage} {last : LedgerState} (v : Version)
+  pub journal-form : {items : List ScriptItem} {journal : Journal} {ps : List Passage} {last : LedgerState}
+      (v : Version)
       → IsScriptSize items → AreWritten items → Tells a items journal ps last
       → All IsLine (journal_lines v a journal.limit ps)
   journal-form v size written tells =

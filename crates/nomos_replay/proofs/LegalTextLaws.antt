@@ -89,7 +89,8 @@ module _ (a : Acceptance) (first : LedgerState) (all : List ScriptItem) where
       in
       record {
         done = so.done ++ p.item ∷ [];
-        tells = subst (λ (j : Journal). TellsFrom a first (so.done ++ p.item ∷ []) j (told.passages ++ p ∷ []) p.after) same tells;
+        tells = subst (λ (j : Journal). TellsFrom a first (so.done ++ p.item ∷ []) j (told.passages ++ p ∷ []) p.after)
+            same tells;
         parts = append_assoc so.done (p.item ∷ []) items ∙ so.parts;
       }
 
@@ -104,9 +105,11 @@ opened_lines v a told run =
 data Led (a : Acceptance) (first : LedgerState) (all : List ScriptItem) : List JournalLine → Stand → Type 0 where
   at_head : Led a first all [] stand.at_head
   at_steps : (v : Version) → Led a first all (line.Head v ∷ []) (stand.at_steps v)
-  before : (v : Version) (told : Told) (items : List ScriptItem) (lines : List JournalLine) → ToldSo a first all told items
+  before : (v : Version) (told : Told) (items : List ScriptItem) (lines : List JournalLine)
+      → ToldSo a first all told items
       → lines ≡ journal_lines v a told.limit told.passages → Led a first all lines (stand.before v told items)
-  owes : (v : Version) (told : Told) (i : ScriptItem) (at : ℕ) (own : End) (after : LedgerState) (items : List ScriptItem)
+  owes : (v : Version) (told : Told) (i : ScriptItem) (at : ℕ) (own : End) (after : LedgerState)
+      (items : List ScriptItem)
       (lines : List JournalLine) → ToldSo a first all told (i ∷ items)
       → IsPassage a (next_limit told) (still i (bare at own) told.ledger after)
       → lines ≡ journal_lines v a told.limit told.passages ++ line.Line at ∷ []
@@ -127,7 +130,8 @@ lines-more v a told p lines own are is =
     ∙ flat_map_more (passage_lines v a) (line.Head v ∷ line.Steps told.limit ∷ []) told.passages p
 
 -- a batch that ended is a passage
-run-passage : {a : Acceptance} (told : Told) (run : UnderWay) (e : End) → AllStart a told.ledger run.batch.starts run.starts
+run-passage : {a : Acceptance} (told : Told) (run : UnderWay) (e : End)
+    → AllStart a told.ledger run.batch.starts run.starts
     → RunsTo a (next_limit told) (after_starts a told.ledger run.starts).state run.firings run.state e
     → IsPassage a (next_limit told)
     (passage.runs run.batch run.firings e told.ledger (after_starts a told.ledger run.starts) run.state
@@ -153,7 +157,8 @@ module _ {a : Acceptance} {first : LedgerState} {all : List ScriptItem} where
       → lines ≡ journal_lines v a told.limit told.passages → Led a first all (lines ++ line.Line at ∷ []) next
   led-opened {v} {told} {items} {at = at} lines (stand.deposit n name units own after deposits) is so are =
       let same : at ≡ n = same_Some at n (sym is) in
-      owes v told (item.Deposit n name units) n own after items (lines ++ line.Line at ∷ []) so (deposit-passage deposits)
+      owes v told (item.Deposit n name units) n own after items (lines ++ line.Line at ∷ []) so
+      (deposit-passage deposits)
       (λ i. are i ++ line.Line (same i) ∷ [])
   led-opened {v} {told} {items} {at = at} lines (stand.refused batch n cause refuses) is so are =
       let same : at ≡ batch.line = same_Some at batch.line (sym is) in
@@ -171,14 +176,16 @@ module _ {a : Acceptance} {first : LedgerState} {all : List ScriptItem} where
       items (lines ++ line.Line at ∷ []) so begun refl (omega arith) (λ i. are i ++ line.Line (same i) ∷ [])
 
   -- a line that is right leads on
-  led-goes : {s t : Stand} {l : JournalLine} {lines : List JournalLine} → Led a first all lines s → Goes a first all s l t
+  led-goes : {s t : Stand} {l : JournalLine} {lines : List JournalLine} → Led a first all lines s
+      → Goes a first all s l t
       → Led a first all (lines ++ l ∷ []) t
   led-goes at_head (stand.head v) = at_steps v
   led-goes (at_steps v) (stand.steps w limit is) =
       before v (nothing_told first limit) all (line.Head v ∷ line.Steps limit ∷ []) (so-none a first all limit is) refl
   led-goes (before v told items lines so are) (stand.item_line w told2 i others at next is opens) =
       led-opened lines opens is so are
-  led-goes (owes v told i at own after items lines so is are) (stand.own_end w told2 i2 at2 own2 after2 items2 kept same) =
+  led-goes (owes v told i at own after items lines so is are)
+      (stand.own_end w told2 i2 at2 own2 after2 items2 kept same) =
       let p : Passage = still i (bare at own) told.ledger after in
       let more = append_assoc (journal_lines v a told.limit told.passages) (line.Line at ∷ []) (line.End own ∷ []) in
       let kept_same : lines ++ line.End kept ∷ [] ≡ lines ++ line.End own ∷ [] =
@@ -197,7 +204,8 @@ module _ {a : Acceptance} {first : LedgerState} {all : List ScriptItem} where
       ∙ append_assoc (journal_lines v a told.limit told.passages) (opened_lines v a told run) (l ∷ [])
       ∙ ap (λ (ls : List JournalLine). journal_lines v a told.limit told.passages ++ line.Line run.batch.line ∷ ls)
       (sym more))
-  led-goes (fires v told run items lines so begun reached within are) (stand.batch_end w told2 run2 items2 kept allowed) =
+  led-goes (fires v told run items lines so begun reached within are)
+      (stand.batch_end w told2 run2 items2 kept allowed) =
       let start : LedgerState = after_starts a told.ledger run.starts in
       let p : Passage = passage.runs run.batch run.firings kept told.ledger start run.state
       (ledger_after told.ledger start run.state kept) in
@@ -205,14 +213,16 @@ module _ {a : Acceptance} {first : LedgerState} {all : List ScriptItem} where
       run-passage told run kept begun (record { reached = reached; within = within; allowed = allowed }) in
       let own : List JournalLine =
       line.Line run.batch.line ∷ (firing_lines v a start.state run.firings ++ line.End kept ∷ []) in
-      let more = append_assoc (journal_lines v a told.limit told.passages) (opened_lines v a told run) (line.End kept ∷ []) in
+      let more = append_assoc (journal_lines v a told.limit told.passages) (opened_lines v a told run)
+      (line.End kept ∷ []) in
       before v (told_with told p) items (lines ++ line.End kept ∷ []) (so-more a first all told p items so refl is)
       (lines-more v a told p (lines ++ line.End kept ∷ []) own
       (ap (λ (ls : List JournalLine). ls ++ line.End kept ∷ []) are ∙ more) (append-nil own))
 
   -- so does a `show`
   led-show : (v : Version) (told : Told) (n : ℕ) (items : List ScriptItem) (lines : List JournalLine)
-      → Led a first all lines (stand.before v told (item.Show n ∷ items)) → Led a first all lines (stand.before v (told_show told n) items)
+      → Led a first all lines (stand.before v told (item.Show n ∷ items))
+      → Led a first all lines (stand.before v (told_show told n) items)
   led-show v told n items lines (before w told2 items2 lines2 so are) =
       let p : Passage = still (item.Show n) None told.ledger told.ledger in
       before v (told_with told p) items lines (so-more a first all told p items so refl (passage.shown told.ledger n))

@@ -71,7 +71,8 @@ pid-bytes : (unit pid : ℕ) → pid < 2 ^ 32 → length (line_text unit (line.P
 pid-bytes unit pid small =
     omega (arith, length-decimal_32 pid small, length-append (decimal pid) (10 ∷ []))
 
-firing-bytes : (v : Version) (a : Acceptance) (s : State) (pid : ℕ) → All IsLine (option_to_list (firing_line v a s pid))
+firing-bytes : (v : Version) (a : Acceptance) (s : State) (pid : ℕ)
+    → All IsLine (option_to_list (firing_line v a s pid))
     → bytes_of a.annotations.unit (option_to_list (firing_line v a s pid)) ≤ 37
 firing-bytes version.One a s pid are =
     omega (
@@ -163,7 +164,8 @@ module _ {a : Acceptance} (accepted : IsAccepted a) (v : Version) where
       let all = all-first IsLine (line.Line b.line ∷ (lines ++ line.End end.Committed ∷ [])) [] are in
       let inner = all-first IsLine lines (line.End end.Committed ∷ [])
       (All-tail IsLine (line.Line b.line) (lines ++ line.End end.Committed ∷ []) all) in
-      let same = ap (bytes_of a.annotations.unit) (append-nil (line.Line b.line ∷ (lines ++ line.End end.Committed ∷ []))) in
+      let same = ap (bytes_of a.annotations.unit)
+      (append-nil (line.Line b.line ∷ (lines ++ line.End end.Committed ∷ []))) in
       omega (
         arith,
         same,

@@ -78,7 +78,8 @@ says-one : {v : Version} {told : Told} {run : UnderWay} {l : JournalLine} {pid o
 says-one {pid = pid} {other = other} one two = same_Some pid other (sym one.process ∙ two.process)
 
 -- a line that says a firing is no end
-says-no_end : {v : Version} {told : Told} {run : UnderWay} {e : End} {pid : ℕ} → SaysFiring v told run (line.End e) pid → ⊥
+says-no_end : {v : Version} {told : Told} {run : UnderWay} {e : End} {pid : ℕ} → SaysFiring v told run (line.End e) pid
+    → ⊥
 says-no_end {v} {e = e} {pid = pid} says = end-fires_none v e pid says.process
 
 module _ {a : Acceptance} {first : LedgerState} {all : List ScriptItem} where
@@ -99,7 +100,8 @@ module _ {a : Acceptance} {first : LedgerState} {all : List ScriptItem} where
       absurd (says-no_end says)
   goes-one (stand.batch_end v told run items kept allowed) (stand.firing w told2 run2 items2 l pid s says steps is) =
       absurd (says-no_end says)
-  goes-one (stand.batch_end v told run items kept allowed) (stand.batch_end w told2 run2 items2 kept2 allowed_other) = refl
+  goes-one (stand.batch_end v told run items kept allowed) (stand.batch_end w told2 run2 items2 kept2 allowed_other) =
+      refl
 
   -- and has a form
   pub goes-form : {s t : Stand} {l : JournalLine} → Goes a first all s l t → MayStand s l
@@ -199,7 +201,8 @@ spoils-one {at = at} (spoiled.not_allowed v told run items kept found not_so fin
     ap (λ (e : Option End). error.WrongEnd at kept e) (finds-one finds finds_other)
 
 -- a line that is right spoils nothing
-goes-or_spoils : {a : Acceptance} {first : LedgerState} {all : List ScriptItem} {at : ℕ} {s t : Stand} {l : JournalLine} {e : ReplayError}
+goes-or_spoils : {a : Acceptance} {first : LedgerState} {all : List ScriptItem} {at : ℕ} {s t : Stand} {l : JournalLine}
+    {e : ReplayError}
     → Goes a first all s l t → Spoils a at s l e → ⊥
 goes-or_spoils (stand.head v) spoils = elim spoils [ ]
 goes-or_spoils (stand.steps v limit is) spoils = elim spoils [ ]
@@ -224,7 +227,8 @@ goes-or_spoils (stand.batch_end v told run items kept allowed)
 -- ---- texts
 
 -- no line is right at a `show`
-show-none : {a : Acceptance} {first : LedgerState} {all : List ScriptItem} {v : Version} {told : Told} {n : ℕ} {items : List ScriptItem}
+show-none : {a : Acceptance} {first : LedgerState} {all : List ScriptItem} {v : Version} {told : Told} {n : ℕ}
+    {items : List ScriptItem}
     {l : JournalLine} {next : Stand} → Goes a first all (stand.before v told (item.Show n ∷ items)) l next → ⊥
 show-none (stand.item_line v told i items at next is opens) = none-some at is
 
@@ -251,7 +255,8 @@ module _ {a : Acceptance} (small : a.annotations.unit < 2 ^ 32) {first : LedgerS
   reads-one (answers.goes at s next text left l answer begins goes rest)
       (answers.goes at2 s2 next2 text2 left2 m other begins_other goes_other rest_other) =
       let (same, back) = one-line a.annotations.unit small text m l left2 left begins_other begins in
-      let place : next2 ≡ next = goes-one (subst (λ (x : JournalLine). Goes a first all s x next2) same goes_other) goes in
+      let place : next2 ≡ next = goes-one (subst (λ (x : JournalLine). Goes a first all s x next2) same goes_other)
+      goes in
       reads-one rest
       (subst (λ (t : List ℕ). Reads a first all (at + 1) next t other) back
       (subst (λ (x : Stand). Reads a first all (at + 1) x left2 other) place rest_other))

@@ -94,7 +94,8 @@ module _ (a : Acceptance) (v : Version) where
   -- ---- items without firings
 
   module _ (told : Told) (i : ScriptItem) (at : ℕ) (own : End) (after : LedgerState) {source middle : Source}
-      (is : entry_at i ≡ Some at) (opens : (items : List ScriptItem) → Opens a v told items i (owes v told i at own after items))
+      (is : entry_at i ≡ Some at) (opens : (items : List ScriptItem)
+      → Opens a v told items i (owes v told i at own after items))
       (read : HasRead a.annotations.unit source (line.Line at) middle) where
     -- the line of an item that owes an end leads to where it is owed
     owed-line : (first : LedgerState) (all items : List ScriptItem)
@@ -153,7 +154,8 @@ module _ (a : Acceptance) (v : Version) where
     still-carries (passage.refused l batch at cause refuses) none source middle later read ends first all items =
         owed-carries (told_of limit ps l) (item.Batch batch) batch.line (end.Refused at cause) l refl
         (λ others. stand.refused batch at cause refuses) read ends first all items
-    still-carries (passage.stays l batch starts pids last begun reaches) none source middle later read ends first all items = absurd none
+    still-carries (passage.stays l batch starts pids last begun reaches) none source middle later read ends first all
+        items = absurd none
     still-carries {most} (passage.undone l batch starts pids last answer begun reaches undoes) none source middle later
         read ends first all items = absurd (allowed-fires a last (length pids) most answer reaches.allowed none)
     still-carries (passage.shown l at) none source middle later read ends first all items =
@@ -185,7 +187,8 @@ module _ (a : Acceptance) (v : Version) where
     still-refused (passage.refused l batch at cause refuses) none source middle e read stops =
         let told = told_of limit ps l in
         let i = item.Batch batch in
-        owed-stops told i batch.line (end.Refused at cause) l refl (λ others. stand.refused batch at cause refuses) read e
+        owed-stops told i batch.line (end.Refused at cause) l refl (λ others. stand.refused batch at cause refuses) read
+        e
         (λ first all items. stops told i batch.line l first all items)
     still-refused (passage.stays l batch starts pids last begun reaches) none source middle e read stops = absurd none
     still-refused {most} (passage.undone l batch starts pids last answer begun reaches undoes) none source middle e read

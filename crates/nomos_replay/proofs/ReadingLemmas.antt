@@ -38,7 +38,8 @@ module _ (a : Acceptance) (first : LedgerState) (all : List ScriptItem) where
       subst (λ (n : ℕ). Reads a first all (before.at + 1) s before.lines (Err (error.BadLine n))) (sym read.at)
       (answers.bad (before.at + 1) s before.lines wants
       (λ m left begins form.
-      let same = one-line a.annotations.unit (small-unit accepted) before.lines m l left after.lines begins read.begins in
+      let same = one-line a.annotations.unit (small-unit accepted) before.lines m l left after.lines begins
+      read.begins in
       none (subst (λ (x : JournalLine). MayStand s x) same.0 form)))
 
   -- a line that spoils the text

@@ -106,7 +106,8 @@ module _ (a : Acceptance) (first : LedgerState) (all : List ScriptItem) (v : Ver
       → ReadsOn next (lines_text a.annotations.unit ls ++ text) answer
       → ReadsOn s (lines_text a.annotations.unit (l ∷ ls) ++ text) answer
   reads-line {s} {next} l ls text answer is goes rest at =
-      answers.goes at s next (lines_text a.annotations.unit (l ∷ ls) ++ text) (lines_text a.annotations.unit ls ++ text) l
+      answers.goes at s next (lines_text a.annotations.unit (l ∷ ls) ++ text) (lines_text a.annotations.unit ls ++ text)
+      l
       answer (record { is = is; joined = lines_front l ls text }) goes (rest (at + 1))
 
   -- the lines of an item without firings
@@ -133,7 +134,8 @@ module _ (a : Acceptance) (first : LedgerState) (all : List ScriptItem) (v : Ver
       → All IsLine (firing_lines v a s pids ++ line.End e ∷ [])
       → ReadsOn
       (before v
-      (stand.told_run a told (record { batch = batch; starts = starts; firings = fired ++ pids; state = last }) e) items)
+      (stand.told_run a told (record { batch = batch; starts = starts; firings = fired ++ pids; state = last }) e)
+      items)
       text answer
       → ReadsOn (fires v told (record { batch = batch; starts = starts; firings = fired; state = s }) items)
       (lines_text a.annotations.unit (firing_lines v a s pids ++ line.End e ∷ []) ++ text) answer
@@ -178,10 +180,12 @@ module _ (a : Acceptance) (first : LedgerState) (all : List ScriptItem) (v : Ver
           ≡ has.line ∷ (firing_lines v a u pids ++ line.End e ∷ []) =
           (λ i. (option_to_list (has.is i) ++ firing_lines v a (state_or s (steps i)) pids) ++ line.End e ∷ []) in
           let lines_are = subst (All IsLine) lines are in
-          let goes : Goes a first all (fires v told (record { batch = batch; starts = starts; firings = fired; state = s }) items)
+          let goes : Goes a first all
+          (fires v told (record { batch = batch; starts = starts; firings = fired; state = s }) items)
           has.line
           (fires v told (record { batch = batch; starts = starts; firings = fired ++ pid ∷ []; state = u }) items) =
-          stand.firing v told (record { batch = batch; starts = starts; firings = fired; state = s }) items has.line pid u
+          stand.firing v told (record { batch = batch; starts = starts; firings = fired; state = s }) items has.line pid
+          u
           (record { process = has.says; left = omega (arith, within) }) steps has.is in
           subst
           (λ (ls : List JournalLine). ReadsOn
@@ -194,7 +198,8 @@ module _ (a : Acceptance) (first : LedgerState) (all : List ScriptItem) (v : Ver
           (All-tail IsLine has.line (firing_lines v a u pids ++ line.End e ∷ []) lines_are)
           (subst
           (λ (ps : List ℕ). ReadsOn
-          (before v (stand.told_run a told (record { batch = batch; starts = starts; firings = ps; state = last }) e) items)
+          (before v (stand.told_run a told (record { batch = batch; starts = starts; firings = ps; state = last }) e)
+          items)
           text answer) (sym (append_assoc fired (pid ∷ []) pids)) rest)))
       at None steps runs others = absurd cc
 
@@ -325,7 +330,8 @@ legal-answer {a} {first} {items} {journal} {ps} {last} v tells are text is withi
     let lines : List JournalLine = flat_map (passage_lines v a) ps in
     let told : Told = record { limit = journal.limit; passages = ps; ledger = last } in
     let tail = All-tail IsLine (line.Head v) (line.Steps journal.limit ∷ lines) are in
-    let reads = reads-leads a first items v journal.limit tells.leads [] refl (All-tail IsLine (line.Steps journal.limit) lines tail) in
+    let reads = reads-leads a first items v journal.limit tells.leads [] refl
+    (All-tail IsLine (line.Steps journal.limit) lines tail) in
     let from_items = subst
     (λ (is : List ScriptItem). (at : ℕ) → Reads a first items at (before v (nothing_told first journal.limit) is)
     (lines_text a.annotations.unit lines) (Ok told)) tells.items_are reads in

@@ -33,7 +33,8 @@ use Rattle.nomos_replay.proofs.WalkLemmas.{ledger-standing, text-legal}
 
 -- the lines of one process more
 pub pids-more : (unit : ℕ) (before pids : List ℕ) (n : ℕ) → n < length pids
-    → (before ++ lines_text unit (map line.Pid (take n pids))) ++ (line_text unit (line.Pid (get_or pids n 0)) ++ 10 ∷ [])
+    → (before ++ lines_text unit (map line.Pid (take n pids)))
+    ++ (line_text unit (line.Pid (get_or pids n 0)) ++ 10 ∷ [])
     ≡ before ++ lines_text unit (map line.Pid (take (n + 1) pids))
 pids-more unit before pids n less =
     flat_map_more (λ (l : JournalLine). line_text unit l ++ 10 ∷ []) before (map line.Pid (take n pids))
@@ -43,7 +44,8 @@ pids-more unit before pids n less =
 -- the lines of one entry more
 pub entries-more : (unit : ℕ) (before : List ℕ) (entries : List Entry) (n : ℕ) (e : Entry) → n < length entries
     → e ≡ get_or entries n e
-    → (before ++ lines_text unit (flat_map entry_lines_in_one (take n entries))) ++ lines_text unit (entry_lines_in_one e)
+    → (before ++ lines_text unit (flat_map entry_lines_in_one (take n entries))) ++ lines_text unit
+    (entry_lines_in_one e)
     ≡ before ++ lines_text unit (flat_map entry_lines_in_one (take (n + 1) entries))
 entries-more unit before entries n e less is =
     let so_far : List JournalLine = flat_map entry_lines_in_one (take n entries) in
@@ -64,7 +66,8 @@ front-lines unit l m ls none one two all empty first second others =
     let a : List ℕ = line_text unit l ++ 10 ∷ [] in
     let b : List ℕ = line_text unit m ++ 10 ∷ [] in
     others
-    ∙ ap (λ (t : List ℕ). t ++ lines_text unit ls) (second ∙ ap (λ (t : List ℕ). t ++ b) (first ∙ ap (λ (t : List ℕ). t ++ a) empty))
+    ∙ ap (λ (t : List ℕ). t ++ lines_text unit ls)
+    (second ∙ ap (λ (t : List ℕ). t ++ b) (first ∙ ap (λ (t : List ℕ). t ++ a) empty))
     ∙ append_assoc a b (lines_text unit ls)
 
 -- ---- what it is
@@ -89,7 +92,8 @@ passages-in_one : (a : Acceptance) (ps : List Passage)
 passages-in_one a [] = refl
 passages-in_one a (p ∷ ps) =
     let own : List JournalLine = flat_map entry_lines_in_one (option_to_list p.entry) in
-    ap (λ (ls : List JournalLine). ls ++ flat_map (passage_lines version.One a) ps) (entry-in_one a p.start.state p.entry)
+    ap (λ (ls : List JournalLine). ls ++ flat_map (passage_lines version.One a) ps)
+    (entry-in_one a p.start.state p.entry)
     ∙ ap (λ (ls : List JournalLine). own ++ ls) (passages-in_one a ps)
     ∙ sym (flat_map-append entry_lines_in_one (option_to_list p.entry) (entries_of ps))
 
@@ -103,7 +107,8 @@ text-in_one {a} {journal = journal} legal is = record {
   tells = legal.tells;
   lines =
       is
-      ∙ ap (λ (ls : List JournalLine). lines_text a.annotations.unit (line.Head version.One ∷ line.Steps journal.limit ∷ ls))
+      ∙ ap (λ (ls : List JournalLine). lines_text a.annotations.unit
+      (line.Head version.One ∷ line.Steps journal.limit ∷ ls))
       (sym (passages-in_one a legal.passages ∙ ap (flat_map entry_lines_in_one) legal.tells.entries_are));
 }
 

@@ -91,7 +91,8 @@ module _ (a : Acceptance) (v : Version) (first : LedgerState) (limit : ℕ) (wan
       come-room items n so.come accepted standing numbers few i size more
 
   module _ {source : Source} {items done : List ScriptItem} (i : ScriptItem) {rest : List ScriptItem} {later : Reading}
-      {l : LedgerState} {w : WalkState} (so : ToldUpTo a v first limit wanted source items done (i ∷ rest) later l w) where
+      {l : LedgerState} {w : WalkState} (so : ToldUpTo a v first limit wanted source items done (i ∷ rest) later l
+      w) where
     -- one item more
     pub told-next : {M : Type 0} (passed : PassedItem M) (next : Reading) {x : WalkState} {more : List ScriptItem}
         → more ≡ done ++ i ∷ []
@@ -176,7 +177,8 @@ module _ (a : Acceptance) (first : LedgerState) (items : List ScriptItem) (text 
     answers = answers.reads (Ok all.told) within (carries.answers (Ok all.told) (all.reads items));
   }
 
-  module _ {M : Type 0} {wanted : WantedTexts} {whole : ToldText M} (answer : IsAnswered a first items text wanted whole) where
+  module _ {M : Type 0} {wanted : WantedTexts} {whole : ToldText M}
+      (answer : IsAnswered a first items text wanted whole) where
     -- so it tells what became of the items by the journal that is given
     answered-tells : TellsFrom a first items whole.journal answer.told.passages whole.ledger
     answered-tells =
@@ -194,7 +196,8 @@ module _ (a : Acceptance) (first : LedgerState) (items : List ScriptItem) (text 
     legal-told accepted journal legal =
         let given = legal-answer legal.version legal.tells legal.forms text legal.lines legal.within in
         let same = answers-one accepted answer.answers given in
-        let told : answer.told ≡ record { limit = journal.limit; passages = legal.passages; ledger = legal.last } = cc same in
+        let told : answer.told ≡ record { limit = journal.limit; passages = legal.passages; ledger = legal.last } =
+        cc same in
         answer.is.journal ∙ ap journal_told told
         ∙ (λ i. record { limit = journal.limit; entries = legal.tells.entries_are i })
 
@@ -291,7 +294,8 @@ module _ (a : Acceptance) (first : LedgerState) (items : List ScriptItem) (text 
       (λ e. (all : List ScriptItem) → Stops a first all source (before v (nothing_told first limit) items) e)
       → MatchResult r (IsAnswered a first items text wanted) (IsRefusedFrom a first items text)
   answer-all r answer =
-      MatchResult-weaker r answer (λ whole all. answered a first items text within v limit wanted source whole carries all)
+      MatchResult-weaker r answer (λ whole all. answered a first items text within v limit wanted source whole carries
+      all)
       (λ e stops. refused-so a first items text within e (stops-later a first items carries e (stops items)))
 
 -- the text of a legal journal has lines, and is short enough to be read
@@ -309,5 +313,6 @@ text-legal {a} accepted standing numbers size written v journal {text} is =
       forms = forms;
       lines = is.lines;
       within =
-          subst (λ (t : List ℕ). length t ≤ max_bytes) (sym is.lines) (journal-within accepted v size written is.tells forms);
+          subst (λ (t : List ℕ). length t ≤ max_bytes) (sym is.lines)
+          (journal-within accepted v size written is.tells forms);
     }

@@ -54,7 +54,8 @@ pub data Reads (a : Acceptance) (first : LedgerState) (all : List ScriptItem)
       → Reads a first all (at + 1) next left answer → Reads a first all at stand text answer
   -- the first line has a form, and spoils the text
   spoils : (at : ℕ) (stand : Stand) (text left : List ℕ) (l : JournalLine) (cause : ReplayError)
-      → BeginsWith a.annotations.unit text l left → Spoils a at stand l cause → Reads a first all at stand text (Err cause)
+      → BeginsWith a.annotations.unit text l left → Spoils a at stand l cause
+      → Reads a first all at stand text (Err cause)
   -- the first line has no form that may stand there, or is missing, or one line is too many
   bad : (at : ℕ) (stand : Stand) (text : List ℕ) → WantsLine stand text → HasNoForm a.annotations.unit stand text
       → Reads a first all at stand text (Err (error.BadLine at))

@@ -88,7 +88,8 @@ pub data Opens (a : Acceptance) (v : Version) (told : Told) (items : List Script
   where
     deposit : (at : ℕ) (name : List ℕ) (units : ℕ) (own : End) (after : LedgerState)
         → Deposits a told.ledger at name units own after
-        → Opens a v told items (item.Deposit at name units) (owes v told (item.Deposit at name units) at own after items)
+        → Opens a v told items (item.Deposit at name units)
+        (owes v told (item.Deposit at name units) at own after items)
     refused : (batch : Batch) (at : ℕ) (cause : Refusal) → OneRefuses a told.ledger batch.starts at cause
         → Opens a v told items (item.Batch batch)
         (owes v told (item.Batch batch) batch.line (end.Refused at cause) told.ledger items)
@@ -129,7 +130,8 @@ pub data Goes (a : Acceptance) (first : LedgerState) (all : List ScriptItem) : S
         → Goes a first all (owes v told i at own after items) (line.End kept)
         (before v (told_with told (still i (bare at own) told.ledger after)) items)
     firing : (v : Version) (told : Told) (run : UnderWay) (items : List ScriptItem) (l : JournalLine) (pid : ℕ)
-        (s : State) → SaysFiring v told run l pid → step a run.state pid ≡ Some s → firing_line v a run.state pid ≡ Some l
+        (s : State) → SaysFiring v told run l pid → step a run.state pid ≡ Some s
+        → firing_line v a run.state pid ≡ Some l
         → Goes a first all (fires v told run items) l
         (fires v told (record run { firings = run.firings ++ pid ∷ []; state = s }) items)
     batch_end : (v : Version) (told : Told) (run : UnderWay) (items : List ScriptItem) (kept : End)

@@ -76,7 +76,8 @@ fn replay_items<M: Undo + Drop>(
     requires limit { IsLimit walk.old.limit }
     requires begins { walk.old ≡ walk_of trial.now.accepted.now walk.old.limit trial.now.wanted [] }
     ensures tells { MatchResult result
-        (λ last. ToldUpTo trial.now.accepted.now trial.now.version from walk.old.limit trial.now.wanted reading.old.source
+        (λ last. ToldUpTo trial.now.accepted.now trial.now.version from walk.old.limit trial.now.wanted
+        reading.old.source
         items.now items.now [] reading.new last walk.new)
         (λ e. (all : List ScriptItem) → Stops trial.now.accepted.now from all reading.old.source
         (before trial.now.version (nothing_told from walk.old.limit) items.now) e) }

@@ -6,8 +6,8 @@ use nomos_legal::journal::End;
 use std::alloc::{AllocError, AllocFailed};
 use thiserror::Error;
 
-/// Why a text is the text of no legal journal of a script (docs/TEXTS.md, "How a journal is read"). Its lines are counted from 1;
-/// the first line that spoils it is named, and at one line the first of these causes, in this order.
+/// Why a text is the text of no legal journal of a script (docs/TEXTS.md, "How a journal is read"). Its lines are
+/// counted from 1; the first line that spoils it is named, and at one line the first of these causes, in this order.
 #[derive(Drop, Debug, Error)]
 pub enum ReplayError {
     /// The text has more than 1,073,741,824 bytes.

@@ -1,5 +1,5 @@
-//! Journals that are read and run: what their texts tell, or the first line that spoils one; and legal journals that are
-//! told again.
+//! Journals that are read and run: what their texts tell, or the first line that spoils one; and legal journals that
+//! are told again.
 #![tactic(auto)]
 
 mod answering;

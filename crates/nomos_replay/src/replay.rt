@@ -58,9 +58,9 @@ fn with_report<M: Undo + Drop>(whole: ToldText<M>) -> Replayed<M>
 
 /// Reads the text of a journal of a script, of version 1 or 2, and runs it from a ledger: what docs/TEXTS.md, "How a
 /// journal is read", says. `Ok` comes exactly where the bytes are the text of a journal of the script's items that is
-/// legal from this ledger: then it gives that journal, the ledger to which it leads, and its report. Otherwise the first
-/// line that spoils the text is refused, or the text is too long. Want of memory may come for every text. The ledger
-/// stands for the program, and each of its next numbers, and the number of its accounts, is at most some 2^31.
+/// legal from this ledger: then it gives that journal, the ledger to which it leads, and its report. Otherwise the
+/// first line that spoils the text is refused, or the text is too long. Want of memory may come for every text. The
+/// ledger stands for the program, and each of its next numbers, and the number of its accounts, is at most some 2^31.
 pub fn replay_from<M: Undo + Drop>(
     alloc: Global,
     accepted: &Accepted,

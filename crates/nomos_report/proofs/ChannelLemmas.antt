@@ -71,7 +71,11 @@ module _ (a : Acceptance) (s : State) (accepted : IsAccepted a) where
       look t has true looks =
           ap (owner_line name)
           (linear
-          (record { own = t; found = has; linear = (looks-linear a t (looks_linear a.program t) accepted refl).0 looks }))
+          (record {
+            own = t;
+            found = has;
+            linear = (looks-linear a t (looks_linear a.program t) accepted refl).0 looks;
+          }))
       look t has false looks =
           ap (owner_line name) (other (λ is.
           let same : is.own ≡ t = own-is (type_of s.types name) is.found has in

@@ -76,14 +76,16 @@ contract-joined text word name process pid gas amount blank held feed = simp app
 pub contract-printed : {s : State} → Numbered s → (unit shared pid : ℕ) (text name : List ℕ) (view : View)
     → keeper s.objects shared ≡ Some pid → Some view ≡ option_map view_of (process_at s pid)
     → (text ++ (codes "contract " ++ name))
-    ++ (codes " process " ++ decimal pid ++ codes " gas " ++ gas_text view.purse unit ++ codes " " ++ held_text view.base
+    ++ (codes " process " ++ decimal pid ++ codes " gas " ++ gas_text view.purse unit ++ codes " "
+    ++ held_text view.base
     ++ codes "\n")
     ≡ text ++ contract_line unit name (standing_for s.objects shared)
 contract-printed {s} numbered unit shared pid text name view kept shown =
     let stands = keeper-stands numbered shared pid kept in
     let own : view ≡ view_of stands.process = own-view (shown ∙ stands.shows) in
     let lines : ℕ → View → List ℕ = λ n v.
-    codes " process " ++ decimal n ++ codes " gas " ++ gas_text v.purse unit ++ codes " " ++ held_text v.base ++ codes "\n"
+    codes " process " ++ decimal n ++ codes " gas " ++ gas_text v.purse unit ++ codes " " ++ held_text v.base
+    ++ codes "\n"
     in
     (λ i. (text ++ (codes "contract " ++ name)) ++ lines (sym stands.number i) (own i))
     ∙ contract-joined text (codes "contract ") name (codes " process ") (decimal stands.process.pid) (codes " gas ")

@@ -112,7 +112,8 @@ contract-line typed unit c contract =
 abbrev line_by : State → ℕ → Bool → List ℕ
 line_by s name linear = cond linear (owner_line name (owner s name)) []
 
-module _ {a : Acceptance} (accepted : IsAccepted a) {s : State} (typed : IsTyped a s) (inside : s.outside ≡ []) (name : ℕ)
+module _ {a : Acceptance} (accepted : IsAccepted a) {s : State} (typed : IsTyped a s) (inside : s.outside ≡ [])
+    (name : ℕ)
     (t : TypeId) where
   owner-line : type_of s.types name ≡ Some t → IsLinearType a.program t → HasOwnerLine a s name t
   owner-line found is =

@@ -27,7 +27,8 @@ place-past (x ∷ xs) (suc n) none = let rest = place-past xs n none in omega (a
 
 -- ---- two lists side by side
 
-pub zip-first : {X Y : Type 0} (xs : List X) (ys : List Y) (n : ℕ) → slice_get xs n ≡ None → slice_get (zip xs ys) n ≡ None
+pub zip-first : {X Y : Type 0} (xs : List X) (ys : List Y) (n : ℕ) → slice_get xs n ≡ None
+    → slice_get (zip xs ys) n ≡ None
 zip-first [] ys n none = refl
 zip-first (x ∷ xs) [] n none = refl
 zip-first (x ∷ xs) (y ∷ ys) zero none = absurd cc

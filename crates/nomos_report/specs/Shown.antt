@@ -27,7 +27,8 @@ held_text None = codes "free"
 abbrev pub contract_line : ℕ → List ℕ → Option Process → List ℕ
 contract_line unit name (Some p) =
     line
-    (codes "contract " ++ name ++ codes " process " ++ decimal p.pid ++ codes " gas " ++ gas_text p.purse unit ++ codes " "
+    (codes "contract " ++ name ++ codes " process " ++ decimal p.pid ++ codes " gas " ++ gas_text p.purse unit
+    ++ codes " "
     ++ held_text p.base)
 contract_line unit name None = []
 

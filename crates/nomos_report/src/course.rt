@@ -155,8 +155,8 @@ fn push_course_end<M: Machine>(
     }
 }
 
-/// Appends the line of a deposit, or of a batch of which a line is refused: `deposited`, or `refused` with its cause. It
-/// is what is printed of this end whatever the states are.
+/// Appends the line of a deposit, or of a batch of which a line is refused: `deposited`, or `refused` with its cause.
+/// It is what is printed of this end whatever the states are.
 pub fn push_still_end(
     text: &mut Vec<u8>,
     accepted: &Accepted,

@@ -200,9 +200,9 @@ fn push_gas_lines<M: Undo>(
     push_amount_line(text, b"deposits ", deposits, unit)
 }
 
-/// Appends what a `show` at a line of the script prints of a ledger that stands for the program: its accounts by number,
-/// its contracts in order of naming, its channels with their owners in ascending order, and the gas that is stored,
-/// spent and deposited (docs/TEXTS.md, "The report"). It goes over each once, and sorts nothing.
+/// Appends what a `show` at a line of the script prints of a ledger that stands for the program: its accounts by
+/// number, its contracts in order of naming, its channels with their owners in ascending order, and the gas that is
+/// stored, spent and deposited (docs/TEXTS.md, "The report"). It goes over each once, and sorts nothing.
 pub fn push_show<M: Undo>(
     text: &mut Vec<u8>,
     accepted: &Accepted,

@@ -21,7 +21,8 @@ pub some_same : {X : Type 0} (x y : X) → Some x ≡ Some y → x ≡ y
 some_same x y same = cc
 
 module _ {M : Type 0} {a : Acceptance} {first : LedgerState} {items : List ScriptItem} {orders : Orders}
-    {run : ScriptRun M} (runs : RunsScriptFrom a first items orders run) (whole : WholeRun M) (given : run.finished ≡ Some whole) where
+    {run : ScriptRun M} (runs : RunsScriptFrom a first items orders run) (whole : WholeRun M)
+    (given : run.finished ≡ Some whole) where
   is-whole : (runs.count ≡ length items) × IsWholeRun a orders runs.passages runs.last whole
   is-whole =
       subst

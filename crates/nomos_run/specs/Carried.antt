@@ -30,9 +30,11 @@ pub record IsWholeRun {M : Type 0} (a : Acceptance) (orders : Orders) (ps : List
   pub ledger : finished.ledger ≡ last
   pub stands : StandsFor a finished.ledger
 
--- From the first ledger so many first items were carried out, and this became of them: the journal is theirs, within the
+-- From the first ledger so many first items were carried out, and this became of them: the journal is theirs, within
+-- the
 -- limit, and their firings are those of the crew. Where more than the journal is given, all items were carried out.
-pub record RunsScriptFrom {M : Type 0} (a : Acceptance) (first : LedgerState) (items : List ScriptItem) (orders : Orders)
+pub record RunsScriptFrom {M : Type 0} (a : Acceptance) (first : LedgerState) (items : List ScriptItem)
+    (orders : Orders)
     (run : ScriptRun M) : Type 0 where
   pub count : ℕ
   pub passages : List Passage

@@ -116,8 +116,8 @@ fn run_items<M: Undo + Drop + Send, G: Gate, R: Threads + Wait + Sync>(
 }
 
 /// Runs a script by a crew, from the empty ledger (docs/MACHINE.md, "Legal journals"): item by item, each batch by the
-/// crew. The report, and the text of the journal where it is wanted, are made while it goes. Where memory is wanting, the
-/// journal of some first items is given.
+/// crew. The report, and the text of the journal where it is wanted, are made while it goes. Where memory is wanting,
+/// the journal of some first items is given.
 pub fn run_script_by_crew<M: Undo + Drop + Send, G: Gate, R: Threads + Wait + Sync>(
     runner: &Runner<'_, G, R>,
     alloc: Global,

@@ -26,7 +26,8 @@ pub struct Runner<'a, G, R> {
 }
 
 /// What a run comes to that carried out all items: its report, the text of its journal in version 2 where it was
-/// wanted, where it was wanted the last result of the last entry, which only a batch that stays has, and the last ledger.
+/// wanted, where it was wanted the last result of the last entry, which only a batch that stays has, and the last
+/// ledger.
 #[derive(Drop, Debug)]
 pub struct WholeRun<M: Undo> {
     pub report: Vec<u8>,

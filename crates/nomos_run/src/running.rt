@@ -105,10 +105,10 @@ fn run_items<M: Undo + Drop>(
     Ok(ledger)
 }
 
-/// Runs a script by one worker, from a ledger (docs/MACHINE.md, "Legal journals"): item by item, each batch as the policy
-/// says. The report, and the text of the journal where it is wanted, are made while it goes. Where memory is wanting, the
-/// journal of some first items is given. The ledger stands for the program, and each of its next numbers, and the number
-/// of its accounts, is at most some 2^31.
+/// Runs a script by one worker, from a ledger (docs/MACHINE.md, "Legal journals"): item by item, each batch as the
+/// policy says. The report, and the text of the journal where it is wanted, are made while it goes. Where memory is
+/// wanting, the journal of some first items is given. The ledger stands for the program, and each of its next numbers,
+/// and the number of its accounts, is at most some 2^31.
 pub fn run_from<M: Undo + Drop>(
     orders: Orders,
     alloc: Global,

@@ -190,7 +190,8 @@ module _ (rows : RowList) (k j : ℕ) (left : Line) (table : Table) (classes : C
       of_test true e =
           subst (λ n. IsIn (class_at classes.columns n) (column_at (stepped j table) n)) (sym (eqb-true m j e))
           (subst (IsIn (class_at classes.columns j))
-          (sym (get_or-set_same table.nonbasic j (column_at table j + 1) 0 inside)) (next-in rows table classes j stands.fit inside followed))
+          (sym (get_or-set_same table.nonbasic j (column_at table j + 1) 0 inside))
+          (next-in rows table classes j stands.fit inside followed))
       of_test false e =
           subst (IsIn (class_at classes.columns m))
           (sym (get_or-set_other table.nonbasic j m (column_at table j + 1) 0 (eqb-false m j e)))

@@ -67,7 +67,8 @@ pub made_skipped : (p g : ℤ) (as' cs : List ℤ) (k n : ℕ) → k ≤ n → n
     → made_up_to p g as' cs k ≡ made_up_to p g as' cs n
 made_skipped p g as' cs k n order within w e zeros =
     let sum : k + (n - k) ≡ n = omega (arith, order) in
-    made_past p g as' cs k (n - k) (omega (arith, sum, within)) w e (λ j from below. zeros j from (omega (arith, sum, below)))
+    made_past p g as' cs k (n - k) (omega (arith, sum, within)) w e
+    (λ j from below. zeros j from (omega (arith, sum, below)))
     ∙ ap (made_up_to p g as' cs) sum
 
 pub made_all : (p g : ℤ) (as' cs : List ℤ) (k : ℕ) → length as' ≤ k → length as' ≡ length cs →

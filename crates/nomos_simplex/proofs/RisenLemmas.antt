@@ -79,7 +79,8 @@ over_risen rows vs j v line h i =
 pub overs_risen : (rows : RowList) (vs : List ℕ) (j v : ℕ) (lines : List Line) (over after : List ℤ) (rise : ℤ) →
     j < length vs → All (λ line. j < length line.coefs) lines → over ≡ map (over_of rows vs) lines →
     length after ≡ length over → rise ≡ bound_of rows v -ℤ bound_of rows (get_or vs j 0) →
-    ((i : ℕ) → i < length over → get_or after i (pos 0) ≡ get_or over i (pos 0) +ℤ coef_at j (line_at lines i) *ℤ rise) →
+    ((i : ℕ) → i < length over → get_or after i (pos 0) ≡ get_or over i (pos 0) +ℤ coef_at j (line_at lines i) *ℤ rise)
+    →
     after ≡ map (over_of rows (set vs j v)) lines
 overs_risen rows vs j v lines over after rise h widths shows long is made =
     let count : length over ≡ length lines = ap length shows ∙ length-map lines (over_of rows vs) in

@@ -17,8 +17,9 @@ use nomos_ir::items::Items;
 use std::alloc::{AllocError, Global};
 
 /// What an exchange does to a line: a variable enters, whose column it is, by the line that is left, where its
-/// coefficient is over 0; `next` has the places of those that are not 0. The nonbasic variables are those after the exchange, and the bounds are theirs. `over` is how
-/// far the variable that is left was over its bound, times the number before it, where that is not large.
+/// coefficient is over 0; `next` has the places of those that are not 0. The nonbasic variables are those after the
+/// exchange, and the bounds are theirs. `over` is how far the variable that is left was over its bound, times the
+/// number before it, where that is not large.
 #[derive(Drop)]
 pub(crate) struct Entry {
     pub(crate) column: usize,

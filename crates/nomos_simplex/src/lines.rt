@@ -147,7 +147,8 @@ fn no_line(alloc: Global) -> Line {
 }
 
 /// Puts the entering variable into a line, in the line's own memory, by the line that is left and the places of its
-/// numbers that are not 0. A line without the variable stays as it is. The answer says where the line is known to have small numbers, with no look at those that were not changed.
+/// numbers that are not 0. A line without the variable stays as it is. The answer says where the line is known to have
+/// small numbers, with no look at those that were not changed.
 pub fn enter(alloc: Global, column: usize, left: &Line, next: &[usize], line: &mut Line) -> bool
     requires column { column < length left.now.coefs }
     requires left { HasNumbers left.now }

@@ -57,8 +57,8 @@ fn lead(rows: &RowList, class: Class, line: &Line, over: i128) -> usize
     first
 }
 
-/// Gives a line the variable that stands for its class, and says how far that is over its bound. The bounds are those of
-/// the nonbasic variables.
+/// Gives a line the variable that stands for its class, and says how far that is over its bound. The bounds are those
+/// of the nonbasic variables.
 fn rename_line(rows: &RowList, bounds: &[i64], class: Class, line: &mut Line, over: i128) -> i128
     requires few { length bounds.now ≤ 64 }
     requires bounds { All IsSmall bounds.now }

@@ -28,7 +28,8 @@ pub(crate) enum Next {
 }
 
 /// Exchanges the basic variable of the line at a place with the nonbasic variable of a column, unless a number is then
-/// too large. The others of its class then have the column's line, and those of the other class the line that is solved.
+/// too large. The others of its class then have the column's line, and those of the other class the line that is
+/// solved.
 pub(crate) fn exchange_classed(
     alloc: Global,
     rows: &RowList,
@@ -74,7 +75,8 @@ fn raise(lines: &[Line], column: usize, rise: i64, over: &mut [i128])
     requires rise { unsigned_abs rise < 2 ^ 46 }
     ensures long { length over.new ≡ length over.old }
     ensures value { (i : ℕ) → i < length over.old →
-        slice_index_or over.new i (pos 0) ≡ slice_index_or over.old i (pos 0) +ℤ coef_at column (line_at lines.now i) *ℤ rise }
+        slice_index_or over.new i (pos 0) ≡ slice_index_or over.old i (pos 0)
+        +ℤ coef_at column (line_at lines.now i) *ℤ rise }
 {
     for i in 0..over.len() {
         over[i] = risen(over[i], lines[i].coefs.as_slice()[column], rise);

@@ -98,7 +98,8 @@ has-name cells p v n once (place, e, is, of, named) = at (name_in cells p v) ref
     at : (o : Option ℕ) → name_in cells p v ≡ o → o ≡ Some n
     at (Some m) found =
         let (other, f, has, key, name) = name-has cells p v m found in
-        let same : e ≡ f = same-entry cells place other e f (once place other e f is has (one-key p v e f of key)) is has in
+        let same : e ≡ f = same-entry cells place other e f (once place other e f is has (one-key p v e f of key)) is
+        has in
         ap Some (sym name ∙ ap (λ (k : Named). k.name) (sym same) ∙ named)
     at None none = absurd (both_ways _ (none-name cells p v none place e is) of)
 
@@ -134,7 +135,8 @@ module _ (homes : ℕ) (cells : List Cell) (hole next : ℕ) (gap : IsGap homes 
                 | inr past ↦
                     elim (cases_eq place next) [
                       | inl same ↦
-                          absurd (both_ways _ (ap is_some (ap (cell_at cells) same ∙ none)) (filled-some cells place e is))
+                          absurd (both_ways _ (ap is_some (ap (cell_at cells) same ∙ none))
+                          (filled-some cells place e is))
                       | inr apart ↦
                           let b = gap.before in
                           elim (gap.full next place e is (omega arith) (omega arith)) [
@@ -149,7 +151,8 @@ module _ (homes : ℕ) (cells : List Cell) (hole next : ℕ) (gap : IsGap homes 
   }
 
   -- the entry there moves into the gap
-  module _ (e : Named) (is : cell_at cells next ≡ Some e) (early : home_of homes e ≤ hole) (within : hole < length cells) where
+  module _ (e : Named) (is : cell_at cells next ≡ Some e) (early : home_of homes e ≤ hole)
+      (within : hole < length cells) where
     abbrev pub moved : List Cell
     moved = set (set cells hole (Some e)) next None
 
@@ -178,7 +181,8 @@ module _ (homes : ℕ) (cells : List Cell) (hole next : ℕ) (gap : IsGap homes 
           | inr other ↦
               elim (cases_eq place next) [
                 | inl same ↦
-                    absurd (both_ways _ (ap is_some (ap (cell_at moved) same ∙ at-next)) (filled-some moved place f has))
+                    absurd (both_ways _ (ap is_some (ap (cell_at moved) same ∙ at-next))
+                    (filled-some moved place f has))
                 | inr apart ↦ inr (other, apart, sym (elsewhere place other apart) ∙ has)
               ]
         ]
@@ -204,7 +208,8 @@ module _ (homes : ℕ) (cells : List Cell) (hole next : ℕ) (gap : IsGap homes 
 
     -- where two entries of one key stood
     place-before : (place : ℕ) (f : Named) → cell_at moved place ≡ Some f
-        → (was : ℕ) × (cell_at cells was ≡ Some f) × ((place ≡ hole) × (was ≡ next) ⊎ ((place ≡ was) × (place ≡ hole → ⊥)))
+        → (was : ℕ) × (cell_at cells was ≡ Some f)
+        × ((place ≡ hole) × (was ≡ next) ⊎ ((place ≡ was) × (place ≡ hole → ⊥)))
     place-before place f has =
         elim (from-moved place f has) [
           | inl here ↦ (next, is ∙ ap Some (sym here.1), inl (here.0, refl))

@@ -22,7 +22,8 @@ of-key q w e f is has =
 
 -- ---- an entry comes
 
-module _ (homes : ℕ) (cells : List Cell) (at : ℕ) (e : Named) (probed : IsProbed homes cells) (within : at < length cells)
+module _ (homes : ℕ) (cells : List Cell) (at : ℕ) (e : Named) (probed : IsProbed homes cells)
+    (within : at < length cells)
     (others : (place : ℕ) (f : Named) → (place ≡ at → ⊥) → cell_at cells place ≡ Some f
     → is_of e.process e.variable f ≡ false) where
   abbrev pub with_entry : List Cell
@@ -58,7 +59,8 @@ module _ (homes : ℕ) (cells : List Cell) (at : ℕ) (e : Named) (probed : IsPr
               | inl second ↦
                   let same : k ≡ e = same-entry with_entry other at k e second also here in
                   let no = others one f apart (sym (there one apart) ∙ has) in
-                  absurd (both_ways _ no (key-back f e (subst (λ (x : Named). is_of f.process f.variable x ≡ true) same key)))
+                  absurd (both_ways _ no
+                  (key-back f e (subst (λ (x : Named). is_of f.process f.variable x ≡ true) same key)))
               | inr also_apart ↦
                   probed.once one other f k (sym (there one apart) ∙ has) (sym (there other also_apart) ∙ also) key
             ]
@@ -70,14 +72,16 @@ module _ (homes : ℕ) (cells : List Cell) (at : ℕ) (e : Named) (probed : IsPr
     near = λ place f has.
         elim (cases_eq place at) [
           | inl same ↦
-              let k : home_of homes f ≡ home_of homes e = ap (home_of homes) (same-entry with_entry place at f e same has here) in
+              let k : home_of homes f ≡ home_of homes e =
+              ap (home_of homes) (same-entry with_entry place at f e same has here) in
               omega arith
           | inr apart ↦ probed.near place f (sym (there place apart) ∙ has)
         ];
     full = λ i place f has after before.
         elim (cases_eq place at) [
           | inl same ↦
-              let k : home_of homes f ≡ home_of homes e = ap (home_of homes) (same-entry with_entry place at f e same has here) in
+              let k : home_of homes f ≡ home_of homes e =
+              ap (home_of homes) (same-entry with_entry place at f e same has here) in
               still i (filled i (omega arith) (omega arith))
           | inr apart ↦ still i (probed.full i place f (sym (there place apart) ∙ has) after before)
         ];
@@ -125,13 +129,15 @@ module _ (homes : ℕ) (cells : List Cell) (at : ℕ) (e : Named) (probed : IsPr
   gone : cell_at without_entry at ≡ None
   gone = cell-set_at cells at None within
 
-  left : (place : ℕ) (f : Named) → cell_at without_entry place ≡ Some f → (place ≡ at → ⊥) × (cell_at cells place ≡ Some f)
+  left : (place : ℕ) (f : Named) → cell_at without_entry place ≡ Some f → (place ≡ at → ⊥)
+      × (cell_at cells place ≡ Some f)
   left place f has =
       let apart = λ (same : place ≡ at).
       both_ways _ (ap is_some (ap (cell_at without_entry) same ∙ gone)) (filled-some without_entry place f has) in
       (apart, sym (cell-set_other cells at place None apart) ∙ has)
 
-  pub once-left : (one other : ℕ) (f k : Named) → cell_at without_entry one ≡ Some f → cell_at without_entry other ≡ Some k
+  pub once-left : (one other : ℕ) (f k : Named) → cell_at without_entry one ≡ Some f
+      → cell_at without_entry other ≡ Some k
       → is_of f.process f.variable k ≡ true → one ≡ other
   once-left one other f k has also key = probed.once one other f k (left one f has).1 (left other k also).1 key
 
@@ -144,7 +150,8 @@ module _ (homes : ℕ) (cells : List Cell) (at : ℕ) (e : Named) (probed : IsPr
         elim (cases_eq i at) [
           | inl same ↦ inl same
           | inr apart ↦
-              inr (ap is_some (cell-set_other cells at i None apart) ∙ probed.full i place f (left place f has).1 after before)
+              inr (ap is_some (cell-set_other cells at i None apart) ∙ probed.full i place f (left place f has).1 after
+              before)
         ];
     once = once-left;
     clear = λ place f from before has. absurd (omega arith);
@@ -182,13 +189,15 @@ module _ (homes : ℕ) (cells : List Cell) (at : ℕ) (e : Named) (probed : IsPr
 
 -- the other cells have other keys than one that has this key
 pub others-apart : (homes p v at : ℕ) (cells : List Cell) (e : Named) → IsProbed homes cells → cell_at cells at ≡ Some e
-    → is_of p v e ≡ true → (place : ℕ) (f : Named) → (place ≡ at → ⊥) → cell_at cells place ≡ Some f → is_of p v f ≡ false
+    → is_of p v e ≡ true → (place : ℕ) (f : Named) → (place ≡ at → ⊥) → cell_at cells place ≡ Some f
+    → is_of p v f ≡ false
 others-apart homes p v at cells e probed is of place f apart has =
     false_from_ne_true (is_of p v f) (λ key. apart (sym (probed.once at place e f is has (one-key p v e f of key))))
 
 -- ---- where all are filled
 
-pub all-filled : (cells : List Cell) (from : ℕ) → ((place : ℕ) → from ≤ place → place < length cells → is_filled cells place ≡ true)
+pub all-filled : (cells : List Cell) (from : ℕ) → ((place : ℕ) → from ≤ place → place < length cells
+    → is_filled cells place ≡ true)
     → length cells ≤ from + entries cells
 all-filled [] from filled = omega arith
 all-filled (None ∷ cells) zero filled = absurd (both_ways _ refl (filled 0 (omega arith) (omega arith)))
@@ -206,7 +215,8 @@ all-filled (c ∷ cells) (suc from) filled =
 -- an entry of a key has another key exactly where the two are one
 pub key-same : (p v q w : ℕ) (e : Named) → is_of p v e ≡ true → is_of q w e ≡ (eqb p q && eqb v w)
 key-same p v q w e of =
-    ap (λ k. eqb k q && eqb e.variable w) (same-process p v e of) ∙ ap (λ k. eqb p q && eqb k w) (same-variable p v e of)
+    ap (λ k. eqb k q && eqb e.variable w) (same-process p v e of)
+    ∙ ap (λ k. eqb p q && eqb k w) (same-variable p v e of)
 
 -- where no cell has the key, the name of a variable stays though that is unbound
 pub none-name_in : (cells : List Cell) (p v q w : ℕ)
@@ -222,7 +232,8 @@ none-name_in cells p v q w none = at (name_in cells q w) refl
         let (place, e, is, of, named) = name-has cells q w n found in
         let parts = and_parts _ _ same in
         let key : is_of p v e ≡ true =
-        subst (λ k. is_of k v e ≡ true) (sym (eqb-true p q parts.0)) (subst (λ k. is_of q k e ≡ true) (sym (eqb-true v w parts.1)) of) in
+        subst (λ k. is_of k v e ≡ true) (sym (eqb-true p q parts.0))
+        (subst (λ k. is_of q k e ≡ true) (sym (eqb-true v w parts.1)) of) in
         absurd (both_ways _ (none place e is) key))
         (λ _. refl)
 

@@ -70,7 +70,8 @@ name-push_none (None ∷ cells) p v = name-push_none cells p v
 name-push_none (Some f ∷ cells) p v = ap (cond (is_of p v f) (Some f.name)) (name-push_none cells p v)
 
 -- the order of two tests of which one at most passes
-either-first : (a b : Bool) (x y z : Option ℕ) → ((a ≡ true) → (b ≡ true) → ⊥) → cond a x (cond b y z) ≡ cond b y (cond a x z)
+either-first : (a b : Bool) (x y z : Option ℕ) → ((a ≡ true) → (b ≡ true) → ⊥)
+    → cond a x (cond b y z) ≡ cond b y (cond a x z)
 either-first true true x y z not = absurd (not refl refl)
 either-first true false x y z not = refl
 either-first false b x y z not = refl
@@ -97,12 +98,14 @@ apart-before cells at e once is place f has =
             | inr not ↦ not
           ]
       | inr past ↦
-          let within : place < length (take at cells) = filled-within (take at cells) place (filled-some (take at cells) place f has) in
+          let within : place < length (take at cells) = filled-within (take at cells) place
+          (filled-some (take at cells) place f has) in
           absurd (omega (arith, within, length-take at cells))
     ]
 
 name-next : (cells : List Cell) (c : Cell) (p v : ℕ)
-    → ((e : Named) → c ≡ Some e → (place : ℕ) (f : Named) → cell_at cells place ≡ Some f → is_of e.process e.variable f ≡ false)
+    → ((e : Named) → c ≡ Some e → (place : ℕ) (f : Named) → cell_at cells place ≡ Some f
+    → is_of e.process e.variable f ≡ false)
     → name_in (cells ++ c ∷ []) p v ≡ with_cell c p v (name_in cells p v)
 name-next cells None p v apart = name-push_none cells p v
 name-next cells (Some e) p v apart = name-push cells e p v (apart e refl)

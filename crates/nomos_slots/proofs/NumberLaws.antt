@@ -196,7 +196,8 @@ module _ {X : Type 0} where
   found-push [] s below = ap (λ b. cond b s.item None) (eq-eqb s.number s.number refl)
   found-push (e ∷ slots) s below =
       let lower : e.number < s.number = All-head (λ n. n < s.number) e.number (numbers slots) below in
-      ap (λ b. cond b e.item (found (slots ++ s ∷ []) s.number)) (ne_eqb e.number s.number (λ same. absurd (omega arith)))
+      ap (λ b. cond b e.item (found (slots ++ s ∷ []) s.number))
+      (ne_eqb e.number s.number (λ same. absurd (omega arith)))
       ∙ found-push slots s (All-tail (λ n. n < s.number) e.number (numbers slots) below)
 
   -- ---- halving

@@ -20,7 +20,8 @@ same-home homes p v e is =
 
 -- ---- cells
 
-pub filled-some : (cells : List Cell) (place : ℕ) (e : Named) → cell_at cells place ≡ Some e → is_filled cells place ≡ true
+pub filled-some : (cells : List Cell) (place : ℕ) (e : Named) → cell_at cells place ≡ Some e
+    → is_filled cells place ≡ true
 filled-some cells place e is = ap is_some is
 
 pub filled-within : (cells : List Cell) (place : ℕ) → is_filled cells place ≡ true → place < length cells

@@ -15,7 +15,8 @@ use Rattle.nomos_slots.specs.declared.shelf.Step.TheVariants as step
 module _ {X : Type 0} where
   -- ---- one row is changed
 
-  pub rows-set : (rows : List (Row X)) (at : ℕ) (r : Row X) → rows_of (set rows at r) ≡ set (rows_of rows) at r.items.items
+  pub rows-set : (rows : List (Row X)) (at : ℕ) (r : Row X)
+      → rows_of (set rows at r) ≡ set (rows_of rows) at r.items.items
   rows-set rows at r = map-set (λ (r : Row X). r.items.items) rows at r
 
   pub row-read : (rows : List (Row X)) (at : ℕ) (r : Row X) → at < length rows → r ≡ get_or rows at r
@@ -31,7 +32,8 @@ module _ {X : Type 0} where
   flags-set : (rows : List (Row X)) (at : ℕ) (r : Row X) → flags_of (set rows at r) ≡ set (flags_of rows) at r.freed
   flags-set rows at r = map-set (λ (r : Row X). r.freed) rows at r
 
-  pub is_freed-set_at : (rows : List (Row X)) (at : ℕ) (r : Row X) → at < length rows → is_freed (set rows at r) at ≡ r.freed
+  pub is_freed-set_at : (rows : List (Row X)) (at : ℕ) (r : Row X) → at < length rows
+      → is_freed (set rows at r) at ≡ r.freed
   is_freed-set_at rows at r within =
       let l : at < length (flags_of rows) = rw length-map within in
       ap (λ fs. get_or fs at false) (flags-set rows at r) ∙ get_or-set_same (flags_of rows) at r.freed false l
@@ -39,7 +41,8 @@ module _ {X : Type 0} where
   pub is_freed-set_other : (rows : List (Row X)) (at place : ℕ) (r : Row X) → (place ≡ at → ⊥)
       → is_freed (set rows at r) place ≡ is_freed rows place
   is_freed-set_other rows at place r ne =
-      ap (λ fs. get_or fs place false) (flags-set rows at r) ∙ get_or-set_other (flags_of rows) at place r.freed false ne
+      ap (λ fs. get_or fs place false) (flags-set rows at r) ∙ get_or-set_other (flags_of rows) at place r.freed false
+      ne
 
   -- a row with the same flag
   pub is_freed-set_same : (rows : List (Row X)) (at place : ℕ) (r s : Row X) → at < length rows → s ≡ get_or rows at s
@@ -53,13 +56,15 @@ module _ {X : Type 0} where
       ]
 
   -- a row that is put back is not freed
-  pub freed-replaced : (rows : List (Row X)) (at place : ℕ) (r : Row X) (e : Step X) → at < length rows → r.freed ≡ false
+  pub freed-replaced : (rows : List (Row X)) (at place : ℕ) (r : Row X) (e : Step X) → at < length rows
+      → r.freed ≡ false
       → is_freed (set rows at r) place ≡ true → has_all place e ≡ eqb at place
       → (is_freed rows place ≡ true) × (has_all place e ≡ false)
   freed-replaced rows at place r e within is freed of =
       elim (cases_eq place at) [
         | inl same ↦
-            absurd (both_ways _ (is_freed-set_at rows at r within ∙ is) (ap (is_freed (set rows at r)) (sym same) ∙ freed))
+            absurd (both_ways _ (is_freed-set_at rows at r within ∙ is) (ap (is_freed (set rows at r)) (sym same)
+            ∙ freed))
         | inr apart ↦ (
           sym (is_freed-set_other rows at place r apart) ∙ freed,
           of ∙ ne_eqb at place (λ e. apart (sym e)),
@@ -188,7 +193,8 @@ module _ {X : Type 0} where
       → (place : ℕ) → is_freed rows place ≡ false
   none-freed rows log i past covered place =
       false_from_ne_true (is_freed rows place)
-      (λ freed. absurd (false≢true (sym (ap (λ some. covers some place) (drop_of_length-le log past)) ∙ covered place freed)))
+      (λ freed. absurd (false≢true (sym (ap (λ some. covers some place) (drop_of_length-le log past))
+      ∙ covered place freed)))
 
   -- ---- an item that comes can be taken out again
 

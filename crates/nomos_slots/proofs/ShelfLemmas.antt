@@ -29,18 +29,21 @@ module _ {X : Type 0} where
       let l : n ≤ length (rows_of rows) = rw length-map within in
       length-undo log (take n (rows_of rows)) ∙ length-take-le n (rows_of rows) l
 
-  pub late-seen : (rows : List (Row X)) (log : List (Step X)) (marked : Option ℕ) (place : ℕ) → mark_len marked ≤ length rows
+  pub late-seen : (rows : List (Row X)) (log : List (Step X)) (marked : Option ℕ) (place : ℕ)
+      → mark_len marked ≤ length rows
       → mark_len marked ≤ place → IfSome (marked_in rows log marked) (λ rs. length rs ≤ place)
   late-seen rows log None place within late = tt
   late-seen rows log (Some n) place within late = omega (arith, length-marked rows log n within)
 
-  pub late-from_seen : (rows : List (Row X)) (log : List (Step X)) (marked : Option ℕ) (place : ℕ) → mark_len marked ≤ length rows
+  pub late-from_seen : (rows : List (Row X)) (log : List (Step X)) (marked : Option ℕ) (place : ℕ)
+      → mark_len marked ≤ length rows
       → IfSome (marked_in rows log marked) (λ rs. length rs ≤ place) → mark_len marked ≤ place
   late-from_seen rows log None place within late = omega arith
   late-from_seen rows log (Some n) place within late = omega (arith, length-marked rows log n within)
 
   pub free-seen : (rows : Vec (Row X)) (log : Vec (Step X)) (marked : Option ℕ) (place : ℕ)
-      → mark_len marked ≤ length rows.items → IsFreeIn rows.items marked place → IsFree (shelving_of rows log marked) place
+      → mark_len marked ≤ length rows.items → IsFreeIn rows.items marked place
+      → IsFree (shelving_of rows log marked) place
   free-seen rows log marked place within free =
       elim free [
         | inl late ↦ inl (late-seen rows.items log.items marked place within late)
@@ -48,7 +51,8 @@ module _ {X : Type 0} where
       ]
 
   pub free-from_seen : (rows : Vec (Row X)) (log : Vec (Step X)) (marked : Option ℕ) (place : ℕ)
-      → mark_len marked ≤ length rows.items → IsFree (shelving_of rows log marked) place → IsFreeIn rows.items marked place
+      → mark_len marked ≤ length rows.items → IsFree (shelving_of rows log marked) place
+      → IsFreeIn rows.items marked place
   free-from_seen rows log marked place within free =
       elim free [
         | inl late ↦ inl (late-from_seen rows.items log.items marked place within late)
@@ -98,7 +102,8 @@ module _ {X : Type 0} where
 
   -- ---- a change that is logged
 
-  pub shelf-logged : (rows : List (Row X)) (log new : List (Step X)) (marked : Option ℕ) (at : ℕ) (e : Step X) (old r : Row X)
+  pub shelf-logged : (rows : List (Row X)) (log new : List (Step X)) (marked : Option ℕ) (at : ℕ) (e : Step X)
+      (old r : Row X)
       → IsShelf rows log marked → at < length rows → old ≡ get_or rows at old → at < mark_len marked
       → new ≡ log ++ e ∷ [] → place_of e ≡ at → (r.freed ≡ old.freed) ⊎ (has_all at e ≡ true)
       → IsShelf (set rows at r) new marked
@@ -136,7 +141,8 @@ module _ {X : Type 0} where
       (omega (arith, length-take n (rows_of rows), length-map rows (λ (r : Row X). r.items.items)))
       (get_or-take n (rows_of rows) at [] below))
 
-  pub marked-logged_any : (rows : List (Row X)) (log new : List (Step X)) (marked : Option ℕ) (at : ℕ) (e : Step X) (r : Row X)
+  pub marked-logged_any : (rows : List (Row X)) (log new : List (Step X)) (marked : Option ℕ) (at : ℕ) (e : Step X)
+      (r : Row X)
       → at < mark_len marked → mark_len marked ≤ length rows → new ≡ log ++ e ∷ []
       → ((rs : List (List X)) → at < length rs → get_or rs at [] ≡ get_or (rows_of rows) at []
       → undone e (set rs at r.items.items) ≡ rs)
@@ -161,7 +167,8 @@ module _ {X : Type 0} where
 
   -- ---- room in rows
 
-  pub spares-more : (rows : List (Row X)) (at more other : ℕ) (old r : Row X) → at < length rows → old ≡ get_or rows at old
+  pub spares-more : (rows : List (Row X)) (at more other : ℕ) (old r : Row X) → at < length rows
+      → old ≡ get_or rows at old
       → spare_of old.items ≤ spare_of r.items + more
       → slice_index (spares_of rows) other ≤ slice_index (spares_of (set rows at r)) other + more
   spares-more rows at more other old r within read le =
@@ -171,7 +178,8 @@ module _ {X : Type 0} where
       elim (cases_eq other at) [
         | inl same ↦
             let here : slice_index (spares_of (set rows at r)) other ≡ spare_of r.items =
-            ap (λ ns. slice_index ns other) all ∙ ap (λ k. slice_index (set (spares_of rows) at (spare_of r.items)) k) same
+            ap (λ ns. slice_index ns other) all ∙ ap (λ k. slice_index (set (spares_of rows) at (spare_of r.items)) k)
+            same
             ∙ get_or-set_same (spares_of rows) at (spare_of r.items) 0 l in
             let was : slice_index (spares_of rows) other ≡ spare_of old.items =
             ap (λ k. slice_index (spares_of rows) k) same
@@ -180,7 +188,8 @@ module _ {X : Type 0} where
             omega arith
         | inr apart ↦
             let there : slice_index (spares_of (set rows at r)) other ≡ slice_index (spares_of rows) other =
-            ap (λ ns. slice_index ns other) all ∙ get_or-set_other (spares_of rows) at other (spare_of r.items) 0 apart in
+            ap (λ ns. slice_index ns other) all ∙ get_or-set_other (spares_of rows) at other (spare_of r.items) 0
+            apart in
             omega arith
       ]
 
@@ -215,14 +224,16 @@ module _ {X : Type 0} where
 
   -- ---- the last rows go
 
-  pub is_freed-take : (rows : List (Row X)) (n place : ℕ) → is_freed (take n rows) place ≡ true → is_freed rows place ≡ true
+  pub is_freed-take : (rows : List (Row X)) (n place : ℕ) → is_freed (take n rows) place ≡ true
+      → is_freed rows place ≡ true
   is_freed-take rows n place freed =
       let cut : flags_of (take n rows) ≡ take n (flags_of rows) = sym (take-map (λ (r : Row X). r.freed) n rows) in
       elim (cases_lt place n) [
         | inl l ↦
             sym (get_or-take n (flags_of rows) place false l) ∙ sym (ap (λ fs. get_or fs place false) cut) ∙ freed
         | inr past ↦
-            absurd (both_ways _ (get_or_past (take n (flags_of rows)) place false (omega (arith, length-take n (flags_of rows))))
+            absurd (both_ways _ (get_or_past (take n (flags_of rows)) place false
+            (omega (arith, length-take n (flags_of rows))))
             (sym (ap (λ fs. get_or fs place false) cut) ∙ freed))
       ]
 
@@ -249,9 +260,11 @@ module _ {X : Type 0} where
 
   -- the same as `IsFree` of what is seen, by the lists
   abbrev pub IsSeenFree : List (Row X) → List (Step X) → Option ℕ → ℕ → Type 0
-  IsSeenFree rows log marked place = IfSome (marked_in rows log marked) (λ rs. length rs ≤ place) ⊎ (is_freed rows place ≡ true)
+  IsSeenFree rows log marked place = IfSome (marked_in rows log marked) (λ rs. length rs ≤ place)
+      ⊎ (is_freed rows place ≡ true)
 
-  pub free-kept : (rows : Vec (Row X)) (log : Vec (Step X)) (again : List (Step X)) (marked : Option ℕ) (at other : ℕ) (old r : Row X)
+  pub free-kept : (rows : Vec (Row X)) (log : Vec (Step X)) (again : List (Step X)) (marked : Option ℕ) (at other : ℕ)
+      (old r : Row X)
       → mark_len marked ≤ length rows.items → at < length rows.items → old ≡ get_or rows.items at old
       → (old.freed ≡ true → r.freed ≡ true)
       → IsFree (shelving_of rows log marked) other → IsSeenFree (set rows.items at r) again marked other
@@ -263,7 +276,8 @@ module _ {X : Type 0} where
             inr (elim (cases_eq other at) [
               | inl same ↦
                   ap (is_freed (set rows.items at r)) same ∙ is_freed-set_at rows.items at r within
-                  ∙ keeps (sym (is_freed-read rows.items at old within read) ∙ ap (is_freed rows.items) (sym same) ∙ freed)
+                  ∙ keeps (sym (is_freed-read rows.items at old within read) ∙ ap (is_freed rows.items) (sym same)
+                  ∙ freed)
               | inr apart ↦ is_freed-set_other rows.items at other r apart ∙ freed
             ])
       ]
@@ -276,5 +290,6 @@ module _ {X : Type 0} where
         | inr late ↦ absurd (not (free-seen rows log marked at marks (inl late)))
       ]
 
-  pub spares-set : (rows : List (Row X)) (at : ℕ) (r : Row X) → spares_of (set rows at r) ≡ set (spares_of rows) at (spare_of r.items)
+  pub spares-set : (rows : List (Row X)) (at : ℕ) (r : Row X) → spares_of (set rows at r) ≡ set (spares_of rows) at
+      (spare_of r.items)
   spares-set rows at r = map-set (λ (r : Row X). spare_of r.items) rows at r

@@ -138,7 +138,13 @@ module _ (process old new : ℕ) where
   came-from (c ∷ cells) zero e is = came-first c cells e is
   came-from (c ∷ cells) (suc place) e is =
       let rest = came-from cells place e is in
-      record { before = rest.before; stood = rest.stood; its_process = rest.its_process; its_variable = rest.its_variable }
+      record {
+        before = rest.before;
+        stood = rest.stood;
+        its_process = rest.its_process;
+        its_variable =
+            rest.its_variable;
+      }
 
   home-from : (homes : ℕ) (cells : List Cell) (place : ℕ) (e : Named) (from : CameFrom cells place e)
       → home_of homes from.before ≡ home_of homes e

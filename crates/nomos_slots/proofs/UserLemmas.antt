@@ -146,7 +146,8 @@ module _ (cells : List Cell) (name : ℕ) where
       (e.variable, has-name cells process e.variable name once (used.place, e, used.there, own, used.named))
     where
       own-key : (e : Named) (p : ℕ) → e.process ≡ p → is_of p e.variable e ≡ true
-      own-key e p same = ap (λ b. b && e.variable == e.variable) (eq-eqb e.process p same) ∙ eq-eqb e.variable e.variable refl
+      own-key e p same = ap (λ b. b && e.variable == e.variable) (eq-eqb e.process p same)
+          ∙ eq-eqb e.variable e.variable refl
 
   named-used : (process : ℕ) → HasName cells name process → UsedBelow (length cells) process
   named-used process (v, named) =

@@ -24,7 +24,8 @@ module _ (n k : ℕ) (fits : n < 2 ^ 64) (some : n / 2 ^ k ≢ 0) where
   shifted_fits : n / 2 ^ k < 2 ^ 64
   shifted_fits = omega (arith, shr_le n k)
 
-  found : (trailing_zeros w64 (n / 2 ^ k) < 64) × (bit_at (n / 2 ^ k) (trailing_zeros w64 (n / 2 ^ k)) ≡ 1) × ((i : ℕ) → i < trailing_zeros w64 (n / 2 ^ k) → bit_at (n / 2 ^ k) i ≡ 0)
+  found : (trailing_zeros w64 (n / 2 ^ k) < 64) × (bit_at (n / 2 ^ k) (trailing_zeros w64 (n / 2 ^ k)) ≡ 1)
+      × ((i : ℕ) → i < trailing_zeros w64 (n / 2 ^ k) → bit_at (n / 2 ^ k) i ≡ 0)
   found = bit_at-trailing_zeros w64 (n / 2 ^ k) (omega arith) shifted_fits
 
   is_one : bit_at n (k + trailing_zeros w64 (n / 2 ^ k)) ≡ 1
@@ -43,20 +44,24 @@ module _ (n k : ℕ) (fits : n < 2 ^ 64) (some : n / 2 ^ k ≢ 0) where
   bit-shifted_lt =
       ⊎_elim
       (λ lt. lt)
-      (λ over. let none : bit_at n (k + trailing_zeros w64 (n / 2 ^ k)) ≡ 0 = bit_at_above n 64 _ fits over in absurd (omega (arith, is_one)))
+      (λ over. let none : bit_at n (k + trailing_zeros w64 (n / 2 ^ k)) ≡ 0 = bit_at_above n 64 _ fits over in
+      absurd (omega (arith, is_one)))
       (cases_lt (k + trailing_zeros w64 (n / 2 ^ k)) 64)
 
 module _ (n k i : ℕ) (within : k < 64) (below : i < 64) where
   pub has_bit-set : has_bit (bit_or n (1 * 2 ^ k % 2 ^ 64)) i ≡ cond (i == k) true (has_bit n i)
   has_bit-set =
       ⊎_elim
-      (λ e. ap (λ j. has_bit (bit_or n (1 * 2 ^ k % 2 ^ 64)) j) e.1 ∙ ap (λ b. b == 1) (bit_at_set_same w64 n k within) ∙ sym (ap (λ b. cond b true (has_bit n i)) e.0))
+      (λ e. ap (λ j. has_bit (bit_or n (1 * 2 ^ k % 2 ^ 64)) j) e.1 ∙ ap (λ b. b == 1) (bit_at_set_same w64 n k within)
+      ∙ sym (ap (λ b. cond b true (has_bit n i)) e.0))
       (λ e. ap (λ b. b == 1) (bit_at_set_other w64 n k within i e.1) ∙ sym (ap (λ b. cond b true (has_bit n i)) e.0))
       (eqb_tells i k)
 
   pub has_bit-clear : has_bit (bit_and n (2 ^ 64 - 1 - 1 * 2 ^ k % 2 ^ 64)) i ≡ cond (i == k) false (has_bit n i)
   has_bit-clear =
       ⊎_elim
-      (λ e. ap (λ j. has_bit (bit_and n (2 ^ 64 - 1 - 1 * 2 ^ k % 2 ^ 64)) j) e.1 ∙ ap (λ b. b == 1) (bit_at_clear_same w64 n k within) ∙ sym (ap (λ b. cond b false (has_bit n i)) e.0))
-      (λ e. ap (λ b. b == 1) (bit_at_clear_other w64 n k within i below e.1) ∙ sym (ap (λ b. cond b false (has_bit n i)) e.0))
+      (λ e. ap (λ j. has_bit (bit_and n (2 ^ 64 - 1 - 1 * 2 ^ k % 2 ^ 64)) j) e.1
+      ∙ ap (λ b. b == 1) (bit_at_clear_same w64 n k within) ∙ sym (ap (λ b. cond b false (has_bit n i)) e.0))
+      (λ e. ap (λ b. b == 1) (bit_at_clear_other w64 n k within i below e.1)
+      ∙ sym (ap (λ b. cond b false (has_bit n i)) e.0))
       (eqb_tells i k)

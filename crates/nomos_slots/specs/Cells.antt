@@ -21,7 +21,8 @@ is_of process variable e = e.process == process && e.variable == variable
 abbrev pub name_in : List Cell → ℕ → ℕ → Option ℕ
 name_in [] process variable = None
 name_in (None ∷ cells) process variable = name_in cells process variable
-name_in (Some e ∷ cells) process variable = cond (is_of process variable e) (Some e.name) (name_in cells process variable)
+name_in (Some e ∷ cells) process variable = cond (is_of process variable e) (Some e.name)
+    (name_in cells process variable)
 
 -- the name, where that of an entry of the same variable of the process comes first
 abbrev pub with_cell : Cell → ℕ → ℕ → Option ℕ → Option ℕ

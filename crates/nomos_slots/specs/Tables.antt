@@ -25,7 +25,8 @@ pub record IsTable (s : Inside) : Type 0 where
 
 -- both have the same names, or neither is there
 abbrev pub HaveSameNames : Option (List Cell) → Option (List Cell) → Type 0
-HaveSameNames (Some before) (Some after) = (process variable : ℕ) → name_in after process variable ≡ name_in before process variable
+HaveSameNames (Some before) (Some after) = (process variable : ℕ)
+    → name_in after process variable ≡ name_in before process variable
 HaveSameNames None None = Unit {0}
 HaveSameNames _ _ = ⊥
 

@@ -13,8 +13,8 @@ use crate::users::lowest_user_in;
 use std::alloc::{AllocError, Global};
 use std::marker::Model;
 
-/// Names by process and variable, which can be marked and put back to what they were there. A look-up takes a few steps,
-/// however many there are.
+/// Names by process and variable, which can be marked and put back to what they were there. A look-up takes a few
+/// steps, however many there are.
 ///
 /// Room is counted in names that come. Who binds one makes room first, by [`Channels::reserve`].
 #[derive(Drop, Debug)]
@@ -124,8 +124,8 @@ impl Channels {
         besides.saturating_sub(self.count.max(self.counted))
     }
 
-    /// Makes room for so many names more. Want of memory leaves the names and the mark as they were; where there is room
-    /// already, it cannot fail. Where a name is kept may change by it, and which names there are does not.
+    /// Makes room for so many names more. Want of memory leaves the names and the mark as they were; where there is
+    /// room already, it cannot fail. Where a name is kept may change by it, and which names there are does not.
     pub fn reserve(&mut self, alloc: Global, n: usize) -> Result<(), AllocError>
         ensures names { (p v : ℕ) → name_in self.new.now p v ≡ name_in self.old.now p v }
         ensures marked { HaveSameNames self.old.marked self.new.marked }

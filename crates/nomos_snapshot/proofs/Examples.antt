@@ -45,7 +45,10 @@ busy = record {
           pid = 1;
           mode = mode.S;
           code = record { 0 = 15 };
-          values = (record { 0 = 2 }, truth true) ∷ (record { 0 = 5 }, list (value_list (int (pos 7) ∷ int (pos 8) ∷ []))) ∷ [];
+          values = (record { 0 = 2 }, truth true) ∷ (
+            record { 0 = 5 },
+            list (value_list (int (pos 7) ∷ int (pos 8) ∷ [])),
+          ) ∷ [];
           lists = (record { 0 = 3 }, record { amount = 2; items = int (pos 0) ∷ [] }) ∷ [];
           channels = (record { 0 = 4 }, 4) ∷ [];
           offers = 1;

@@ -40,7 +40,8 @@ differs m n other = elim (cases_Bool (bytes_eq m n)) [
 ]
 
 -- one label more
-pub label-put : {X : Type 0} (text : X → List ℕ) (xs ys : List X) (x : X) (labels : List (List ℕ)) (i : ℕ) (name : List ℕ)
+pub label-put : {X : Type 0} (text : X → List ℕ) (xs ys : List X) (x : X) (labels : List (List ℕ)) (i : ℕ)
+    (name : List ℕ)
     → AllPairs (λ k l. k ≢ l) labels → i < length labels → map text xs ≡ take i labels → text x ≡ name
     → name ≡ get_or labels i name
     → ys ≡ (if list_any (λ y. bytes_eq (text x) (text y)) xs then xs else xs ++ x ∷ [])

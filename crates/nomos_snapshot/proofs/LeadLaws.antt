@@ -177,7 +177,8 @@ account-added l name dths even no_contracts no_types none =
           ∙ ap (λ (ls : List SnapshotLine). ls ++ [])
           (map-append (λ (e : List ℕ × ℕ). line.Account e.0 e.1) (zip l.accounts l.state.balances) ((name, dths) ∷ []))
           ∙ more-accounts (account_lines l.accounts l.state.balances) (line.Account name dths ∷ [])
-          ∙ ap (λ (ls : List SnapshotLine). (account_lines l.accounts l.state.balances ++ ls) ++ line.Account name dths ∷ [])
+          ∙ ap (λ (ls : List SnapshotLine). (account_lines l.accounts l.state.balances ++ ls) ++ line.Account name dths
+          ∷ [])
           (sym nothing);
       next_object = refl;
       next_name = refl;
@@ -202,7 +203,8 @@ process-more p q l same is =
     append-nil (line.Process (seen_process q) ∷ variable_lines q)
     ∙ ap (λ (x : SeenProcess). line.Process x ∷ variable_lines q) same
     ∙ ap (λ (ls : List SnapshotLine). line.Process (seen_process p) ∷ ls) is
-    ∙ ap (λ (ls : List SnapshotLine). ls ++ l ∷ []) (sym (append-nil (line.Process (seen_process p) ∷ variable_lines p)))
+    ∙ ap (λ (ls : List SnapshotLine). ls ++ l ∷ [])
+    (sym (append-nil (line.Process (seen_process p) ∷ variable_lines p)))
 
 -- what a line adds to what was gathered
 goes-adds : {a : Acceptance} {g h : Gathered} {l : SnapshotLine} → IsEven g.ledger → Goes a (behind g) l (behind h)
@@ -223,7 +225,8 @@ goes-adds even (gathering.message g m over) =
     (sym (no-more (with_objects (ledger_of g) (object.Message m ∷ []))))
     (objects-added (ledger_of g) [] (object.Message m ∷ []) (line.Message m ∷ []) even refl))
 goes-adds even (gathering.value l p v x over) =
-    objects-added l (object.Process p ∷ []) (object.Process (gathering.with_value v x p) ∷ []) (line.Value v x ∷ []) even
+    objects-added l (object.Process p ∷ []) (object.Process (gathering.with_value v x p) ∷ []) (line.Value v x ∷ [])
+    even
     (process-more p (gathering.with_value v x p) (line.Value v x) refl (value-line p v over x))
 goes-adds even (gathering.list l p v amount items over) =
     objects-added l (object.Process p ∷ []) (object.Process (gathering.with_list v amount items p) ∷ [])
@@ -304,8 +307,10 @@ lead-lines {a} {lines} {ledger} lead =
     let (o, n, g, ls, is, rest) = head-lines lead in
     let adds = lead-adds (record { ledger = gathering.no_ledger o n g; process = None }) refl refl rest in
     is
-    ∙ ap (λ (k : ℕ). line.Head ∷ line.Unit a.annotations.unit ∷ line.Next k n ∷ line.Spent g ∷ ls) (sym adds.next_object)
-    ∙ ap (λ (k : ℕ). line.Head ∷ line.Unit a.annotations.unit ∷ line.Next ledger.state.next_object k ∷ line.Spent g ∷ ls)
+    ∙ ap (λ (k : ℕ). line.Head ∷ line.Unit a.annotations.unit ∷ line.Next k n ∷ line.Spent g ∷ ls)
+    (sym adds.next_object)
+    ∙ ap (λ (k : ℕ). line.Head ∷ line.Unit a.annotations.unit ∷ line.Next ledger.state.next_object k ∷ line.Spent g
+    ∷ ls)
     (sym adds.next_name)
     ∙ ap (λ (k : ℕ). line.Head ∷ line.Unit a.annotations.unit
     ∷ line.Next ledger.state.next_object ledger.state.next_name ∷ line.Spent k ∷ ls) (sym adds.spent)

@@ -49,13 +49,15 @@ bare-name : (name : List ℕ) → IsScriptName name → IsBare name
 bare-name name is = bare-letters name is.word.each
 
 -- a label of the program
-label-is : (lists : ProgramLists) (l : ℕ) (text : List ℕ) → slice_get lists.labels l ≡ Some text → label_word lists l ≡ text
+label-is : (lists : ProgramLists) (l : ℕ) (text : List ℕ) → slice_get lists.labels l ≡ Some text
+    → label_word lists l ≡ text
 label-is lists l text e = rw e refl
 
 pub label-at : (lists : ProgramLists) (l : ℕ) → l < length lists.labels → label_word lists l ≡ get_or lists.labels l []
 label-at lists l within = label-is lists l (get_or lists.labels l []) (slice_get-get_or lists.labels l [] within)
 
-bare-label : (lists : ProgramLists) (l : ℕ) → NamesAreShort lists → l < length lists.labels → IsBare (label_word lists l)
+bare-label : (lists : ProgramLists) (l : ℕ) → NamesAreShort lists → l < length lists.labels
+    → IsBare (label_word lists l)
 bare-label lists l short within =
     rw (label-at lists l within)
     (bare-letters (get_or lists.labels l [])
@@ -99,16 +101,23 @@ bare-append (w ∷ ws) vs a b = (a.0, bare-append ws vs a.1 b)
 
 bare-payload : (lists : ProgramLists) (p : Payload) → NamesAreShort lists → IsLinePayload lists p
     → AreBare (payload_words lists p)
-bare-payload lists (payload.Label l) short is = (bare-word (codes "label") refl refl, (bare-label lists l.0 short is.1, tt))
+bare-payload lists (payload.Label l) short is = (
+  bare-word (codes "label") refl refl,
+  (bare-label lists l.0 short is.1, tt),
+)
 bare-payload lists (payload.Value v) short is = (bare-word (codes "value") refl refl, (bare-value v is, tt))
 bare-payload lists (payload.Channel name) short is =
     (bare-word (codes "channel") refl refl, (bare-number name (omega (arith, is)), tt))
 bare-payload lists payload.Pay short is = (bare-word (codes "pay") refl refl, tt)
 bare-payload lists payload.Close short is = (bare-word (codes "close") refl refl, tt)
 
-line-bare : (lists : ProgramLists) (l : SnapshotLine) → NamesAreShort lists → IsLine lists l → AreBare (line_words lists l)
+line-bare : (lists : ProgramLists) (l : SnapshotLine) → NamesAreShort lists → IsLine lists l
+    → AreBare (line_words lists l)
 line-bare lists line.Head short is = (bare-word (codes "nomos-ledger") refl refl, (bare-word (codes "1") refl refl, tt))
-line-bare lists (line.Unit unit) short is = (bare-word (codes "unit") refl refl, (bare-number unit (omega (arith, is)), tt))
+line-bare lists (line.Unit unit) short is = (
+  bare-word (codes "unit") refl refl,
+  (bare-number unit (omega (arith, is)), tt),
+)
 line-bare lists (line.Next o n) short is = (
   bare-word (codes "next") refl refl,
   (bare-number o (omega (arith, is.0)), (bare-number n (omega (arith, is.1)), tt)),

@@ -97,7 +97,8 @@ typed-sound answer none tells = (
 
 -- ---- names of contracts
 
-pub shared-name : {a : Acceptance} {s : State} (modes : List Mode) (name : ℕ) (t : TypeId) (answer : Bool) → IsAccepted a
+pub shared-name : {a : Acceptance} {s : State} (modes : List Mode) (name : ℕ) (t : TypeId) (answer : Bool)
+    → IsAccepted a
     → AreModesOf a.program modes → Some t ≡ type_of s.types name
     → (IsTrue answer ↔ (slice_get modes t.0 ≡ Some mode.S)) → IsTrue answer ↔ IsContractName a s name
 shared-name {a} {s} modes name t answer accepted are found tells = (

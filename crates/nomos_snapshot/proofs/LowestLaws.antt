@@ -85,7 +85,8 @@ left_pairs values lists channels =
 
 pub value-first : (e : VarId × Value) (values : List (VarId × Value)) (lists : List (VarId × PotentialList))
     (channels : List (VarId × ℕ)) → AreAbove e.0.0 values → AreAbove e.0.0 lists → AreAbove e.0.0 channels
-    → bindings_of (left_pairs (e ∷ values) lists channels) ≡ value_pair e ∷ bindings_of (left_pairs values lists channels)
+    → bindings_of (left_pairs (e ∷ values) lists channels) ≡ value_pair e ∷ bindings_of
+    (left_pairs values lists channels)
 value-first e values lists channels a b c =
     bindings-first (value_pair e) [] (left_pairs values lists channels) (All-nil (λ p. e.0.0 < p.0.0))
     (All-append (λ p. e.0.0 < p.0.0) (map value_pair values) (map list_pair lists ++ map channel_pair channels)
@@ -95,7 +96,8 @@ value-first e values lists channels a b c =
 
 pub list-first : (e : VarId × PotentialList) (values : List (VarId × Value)) (lists : List (VarId × PotentialList))
     (channels : List (VarId × ℕ)) → AreAbove e.0.0 values → AreAbove e.0.0 lists → AreAbove e.0.0 channels
-    → bindings_of (left_pairs values (e ∷ lists) channels) ≡ list_pair e ∷ bindings_of (left_pairs values lists channels)
+    → bindings_of (left_pairs values (e ∷ lists) channels) ≡ list_pair e ∷ bindings_of
+    (left_pairs values lists channels)
 list-first e values lists channels a b c =
     bindings-first (list_pair e) (map value_pair values) (map list_pair lists ++ map channel_pair channels)
     (All-map (λ p. e.0.0 < p.0.0) value_pair values a)
@@ -107,7 +109,8 @@ pub channel-first : (e : VarId × ℕ) (values : List (VarId × Value)) (lists :
     → bindings_of (left_pairs values lists (e ∷ channels))
     ≡ channel_pair e ∷ bindings_of (left_pairs values lists channels)
 channel-first e values lists channels a b c =
-    ap bindings_of (sym (append_assoc (map value_pair values) (map list_pair lists) (channel_pair e ∷ map channel_pair channels)))
+    ap bindings_of (sym (append_assoc (map value_pair values) (map list_pair lists)
+    (channel_pair e ∷ map channel_pair channels)))
     ∙ bindings-first (channel_pair e) (map value_pair values ++ map list_pair lists) (map channel_pair channels)
     (All-append (λ p. e.0.0 < p.0.0) (map value_pair values) (map list_pair lists)
     (All-map (λ p. e.0.0 < p.0.0) value_pair values a) (All-map (λ p. e.0.0 < p.0.0) list_pair lists b))
@@ -149,7 +152,8 @@ data Lower {X Y : Type 0} : List (VarId × X) → List (VarId × Y) → Type 0 w
   that : (f : VarId × Y) (xs : List (VarId × X)) (ys : List (VarId × Y)) → AreAbove f.0.0 xs → AreAbove f.0.0 ys
       → Lower xs (f ∷ ys)
 
-lower : {X Y : Type 0} (xs : List (VarId × X)) (ys : List (VarId × Y)) → IsAscending xs → IsAscending ys → AreApart xs ys
+lower : {X Y : Type 0} (xs : List (VarId × X)) (ys : List (VarId × Y)) → IsAscending xs → IsAscending ys
+    → AreApart xs ys
     → Lower xs ys
 lower [] [] a b apart = neither
 lower (e ∷ xs) [] a b apart = this e xs [] (above-others e xs a) (All-nil (λ p. e.0.0 < p.0.0))

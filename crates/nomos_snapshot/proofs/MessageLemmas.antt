@@ -95,7 +95,8 @@ pub head-none : (lists : ProgramLists) (words : List (List ℕ))
     → (l : SnapshotLine) → IsMessageOf lists l → words ≢ drop 1 (line_words lists l)
 head-none lists words none l is e =
     let m = message-words lists words l is e in
-    none (head_of m.message) (payload_words lists m.message.payload ++ codes "purse" ∷ decimal m.message.purse ∷ []) m.head
+    none (head_of m.message) (payload_words lists m.message.payload ++ codes "purse" ∷ decimal m.message.purse ∷ [])
+    m.head
     m.joined
 
 -- what stands behind the head

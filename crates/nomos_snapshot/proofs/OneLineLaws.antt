@@ -149,7 +149,8 @@ processes-only lists p q a b e =
     (any-only p.base q.base a.base b.base base) (gas-only p.purse q.purse a.purse b.purse purse)
     (number-only p.payer q.payer a.payer b.payer payer)
 
-messages-only : (lists : ProgramLists) (m n : Message) → NamesDiffer lists → IsMessageLine lists m → IsMessageLine lists n
+messages-only : (lists : ProgramLists) (m n : Message) → NamesDiffer lists → IsMessageLine lists m
+    → IsMessageLine lists n
     → line_words lists (line.Message m) ≡ line_words lists (line.Message n) → m ≡ n
 messages-only lists m n differ a b e =
     let number : decimal m.number ≡ decimal n.number = cc in

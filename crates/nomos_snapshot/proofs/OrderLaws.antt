@@ -274,7 +274,8 @@ last-orderly l p q same keeps orderly =
       names = orderly.names;
       objects = subst (IsStrictlySortedBy nat_cmp) numbers orderly.objects;
       variables =
-          All-push HasVariables os (object.Process q) (All-front HasVariables os (object.Process p ∷ []) orderly.variables)
+          All-push HasVariables os (object.Process q)
+          (All-front HasVariables os (object.Process p ∷ []) orderly.variables)
           (keeps last);
     }
   where

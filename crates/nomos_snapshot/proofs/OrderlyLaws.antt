@@ -97,7 +97,8 @@ objects-lead {a} base done (object.Process p ∷ rest) g is variables sorted und
     let o : Object = object.Process p in
     let after : Gathered = record { ledger = ledger_of g; process = Some p } in
     let own : All (IsLine a.program) (line.Process (seen_process p) ∷ variable_lines p) =
-    All-front (IsLine a.program) (line.Process (seen_process p) ∷ variable_lines p) (flat_map object_lines rest) lines in
+    All-front (IsLine a.program) (line.Process (seen_process p) ∷ variable_lines p) (flat_map object_lines rest)
+    lines in
     let others : All (IsLine a.program) (flat_map object_lines rest) =
     All-back (IsLine a.program) (line.Process (seen_process p) ∷ variable_lines p) (flat_map object_lines rest) lines in
     let over : IsOverObjects p.pid (ledger_of g) =
@@ -106,7 +107,8 @@ objects-lead {a} base done (object.Process p ∷ rest) g is variables sorted und
     let lead = objects-lead base (done ++ o ∷ []) rest after (ap (λ (l : LedgerState). with_objects l (o ∷ [])) is)
     (All-tail HasVariables o rest variables) (sorted_tail nat_cmp p.pid (map object_number rest) sorted)
     (pushed-under object_number done rest o under sorted) others in
-    process-lead g p (flat_map object_lines rest) (record base { state = record base.state { objects = done ++ o ∷ rest } })
+    process-lead g p (flat_map object_lines rest)
+    (record base { state = record base.state { objects = done ++ o ∷ rest } })
     (All-head HasVariables o rest variables) over own
     (subst (λ (os : List Object). LeadTo a (behind after) (flat_map object_lines rest)
     (record base { state = record base.state { objects = os } })) (append_assoc done (o ∷ []) rest) lead)
@@ -117,14 +119,16 @@ objects-lead {a} base done (object.Process p ∷ rest) g is variables sorted und
 with_names : LedgerState → NameTypes → LedgerState
 with_names l types = record l { state = record l.state { types = types; objects = [] } }
 
-names-lead : {a : Acceptance} (base : LedgerState) (done rest : NameTypes) (more : List SnapshotLine) (ledger : LedgerState)
+names-lead : {a : Acceptance} (base : LedgerState) (done rest : NameTypes) (more : List SnapshotLine)
+    (ledger : LedgerState)
     → IsStrictlySortedBy nat_cmp (map (λ t. t.0) rest) → All (λ t. All (λ d. d.0 < t.0) done) rest
     → All (IsLine a.program) (map (λ t. line.Name t.0 t.1) rest)
     → LeadTo a (settled (with_names base (done ++ rest))) more ledger
     → LeadTo a (settled (with_names base done)) (map (λ t. line.Name t.0 t.1) rest ++ more) ledger
 unfolding with_names
 names-lead {a} base done [] more ledger sorted under lines lead =
-    subst (λ (ts : NameTypes). LeadTo a (settled (record base { state = record base.state { types = ts; objects = [] } }))
+    subst (λ (ts : NameTypes).
+    LeadTo a (settled (record base { state = record base.state { types = ts; objects = [] } }))
     more ledger) (append-nil done) lead
 names-lead {a} base done (t ∷ rest) more ledger sorted under lines lead =
     leading.line (line.Name t.0 t.1)
@@ -133,7 +137,8 @@ names-lead {a} base done (t ∷ rest) more ledger sorted under lines lead =
     (names-lead base (done ++ t ∷ []) rest more ledger (sorted_tail nat_cmp t.0 (map (λ x. x.0) rest) sorted)
     (pushed-under (λ (x : ℕ × TypeId). x.0) done rest t under sorted)
     (All-tail (IsLine a.program) (line.Name t.0 t.1) (map (λ t. line.Name t.0 t.1) rest) lines)
-    (subst (λ (ts : NameTypes). LeadTo a (settled (record base { state = record base.state { types = ts; objects = [] } }))
+    (subst (λ (ts : NameTypes).
+    LeadTo a (settled (record base { state = record base.state { types = ts; objects = [] } }))
     more ledger) (sym (append_assoc done (t ∷ []) rest)) lead))
 
 -- ---- names that differ
@@ -145,7 +150,8 @@ pub pairs-tail : {X : Type 0} (R : X → X → Type 0) (x : X) (xs : List X) →
 pairs-tail R x xs pairs = λ i j d before within. pairs (suc i) (suc j) d (omega (arith, before)) (omega (arith, within))
 
 -- what is left differs from what was taken, with one more
-pushed-apart : {X : Type 0} (R : X → X → Type 0) (done rest : List X) (x : X) → All (λ y. All (λ d. R d y) done) (x ∷ rest)
+pushed-apart : {X : Type 0} (R : X → X → Type 0) (done rest : List X) (x : X)
+    → All (λ y. All (λ d. R d y) done) (x ∷ rest)
     → AllPairs R (x ∷ rest) → All (λ y. All (λ d. R d y) (done ++ x ∷ [])) rest
 pushed-apart R done rest x apart pairs =
     let before = All-tail (λ y. All (λ d. R d y) done) x rest apart in
@@ -160,7 +166,8 @@ text-differs m n other = elim (cases_Bool (bytes_eq m n)) [
 ]
 
 -- a contract whose name none has
-no-contract : (contracts : Contracts) (name : List ℕ) → All (λ c. c.0 ≢ name) contracts → shared_name contracts name ≡ None
+no-contract : (contracts : Contracts) (name : List ℕ) → All (λ c. c.0 ≢ name) contracts
+    → shared_name contracts name ≡ None
 no-contract [] name all = refl
 no-contract (c ∷ contracts) name all =
     rw (text-differs c.0 name (All-head (λ d. d.0 ≢ name) c contracts all))

@@ -48,7 +48,8 @@ record AreOver (p : Process) (values : List (VarId × Value)) (lists : List (Var
   lists_over : All (λ e. IsOverVariables e.0 p) lists
   channels_over : All (λ e. IsOverVariables e.0 p) channels
 
-pub all-both : {X : Type 0} (P Q R : X → Type 0) → ((x : X) → P x → Q x → R x) → (xs : List X) → All P xs → All Q xs → All R xs
+pub all-both : {X : Type 0} (P Q R : X → Type 0) → ((x : X) → P x → Q x → R x) → (xs : List X) → All P xs → All Q xs
+    → All R xs
 all-both P Q R both xs p q = λ k d within. both _ (p k d within) (q k d within)
 
 -- ---- one variable more
@@ -152,7 +153,8 @@ step {a} k p q l all others more ledger is goes lines rest =
     (rest (All-tail (IsLine a.program) l others here)))
 
 variables-lead : {a : Acceptance} (n : ℕ) (k : LedgerState) (p : Process) (values : List (VarId × Value))
-    (lists : List (VarId × PotentialList)) (channels : List (VarId × ℕ)) (more : List SnapshotLine) (ledger : LedgerState)
+    (lists : List (VarId × PotentialList)) (channels : List (VarId × ℕ)) (more : List SnapshotLine)
+    (ledger : LedgerState)
     → Lowest values lists channels → length values + length lists + length channels ≤ n → AreLeft values lists channels
     → AreOver p values lists channels → All (IsLine a.program) (left_lines values lists channels)
     → LeadTo a (unfinished k (grown p values lists channels)) more ledger
@@ -160,13 +162,16 @@ variables-lead : {a : Acceptance} (n : ℕ) (k : LedgerState) (p : Process) (val
 unfolding left_lines grown
 variables-lead {a} n k p [] [] [] more ledger nothing few left over lines lead =
     subst (λ (q : Process). LeadTo a (unfinished k q) more ledger) (sym (grown-none p)) lead
-variables-lead zero k p (e ∷ values) lists channels more ledger (lowest_value e2 v2 l2 c2 x y z) few left over lines lead =
+variables-lead zero k p (e ∷ values) lists channels more ledger (lowest_value e2 v2 l2 c2 x y z) few left over lines
+    lead =
     absurd (omega (arith, few))
-variables-lead {a} (suc n) k p (e ∷ values) lists channels more ledger (lowest_value e2 v2 l2 c2 x y z) few left over lines
+variables-lead {a} (suc n) k p (e ∷ values) lists channels more ledger (lowest_value e2 v2 l2 c2 x y z) few left over
+    lines
     lead =
     let rest_left = without-value e values lists channels left in
     let q = with_value e.0 e.1 p in
-    step k p q (line.Value e.0 e.1) (left_lines (e ∷ values) lists channels) (left_lines values lists channels) more ledger
+    step k p q (line.Value e.0 e.1) (left_lines (e ∷ values) lists channels) (left_lines values lists channels) more
+    ledger
     (ap (map (λ (f : VarId × SnapshotLine). f.1)) (value-first e values lists channels x y z))
     (gathering.value k p e.0 e.1 (All-head (λ f. IsOverVariables f.0 p) e values over.values_over)) lines
     (λ others. variables-lead n k q values lists channels more ledger (lowest values lists channels rest_left)
@@ -183,9 +188,11 @@ variables-lead {a} (suc n) k p (e ∷ values) lists channels more ledger (lowest
       lists = p.lists ++ lists;
       channels = p.channels ++ channels;
     })) more ledger) (sym (append_assoc p.values (e ∷ []) values)) lead))
-variables-lead zero k p values (e ∷ lists) channels more ledger (lowest_list e2 v2 l2 c2 x y z) few left over lines lead =
+variables-lead zero k p values (e ∷ lists) channels more ledger (lowest_list e2 v2 l2 c2 x y z) few left over lines
+    lead =
     absurd (omega (arith, few))
-variables-lead {a} (suc n) k p values (e ∷ lists) channels more ledger (lowest_list e2 v2 l2 c2 x y z) few left over lines
+variables-lead {a} (suc n) k p values (e ∷ lists) channels more ledger (lowest_list e2 v2 l2 c2 x y z) few left over
+    lines
     lead =
     let rest_left = without-list e values lists channels left in
     let q = with_list e.0 e.1.amount e.1.items p in

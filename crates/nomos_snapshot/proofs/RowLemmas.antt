@@ -90,7 +90,8 @@ pub list-unended : (depth : ℕ) (text inner left : List ℕ) (vs : List Value) 
     → BeginsRow (depth - 1) inner (value_list vs) left → ¬ (Ends left) → HasNoValue depth text
 list-unended depth text inner left vs open_is row unended v back begins =
     let l = list-begins depth text inner open_is v back begins in
-    let both = rows-only (value_list vs) l.values left back row.within.0 l.row.within.0 (sym row.joined ∙ l.row.joined) in
+    let both = rows-only (value_list vs) l.values left back row.within.0 l.row.within.0
+    (sym row.joined ∙ l.row.joined) in
     unended (subst Ends (sym both.1) begins.ends)
 
 -- ---- values with a comma behind each
@@ -127,7 +128,8 @@ within-more depth (d ∷ done) v all is =
     let rest = within-more depth done v (all.0.1, omega (arith, all.1)) is in
     ((all.0.0, rest.0), omega (arith, all.1, rest.1))
 
-front-more : (done : List Value) (v : Value) → front_text (done ++ v ∷ []) ≡ front_text done ++ (value_text v ++ 44 ∷ [])
+front-more : (done : List Value) (v : Value) → front_text (done ++ v ∷ []) ≡ front_text done
+    ++ (value_text v ++ 44 ∷ [])
 unfolding front_text
 front-more [] v = refl
 front-more (d ∷ done) v =
@@ -204,7 +206,8 @@ row-splits (d ∷ done) w no_values left back done_small small e =
     (sym (append_assoc (value_text d) (44 ∷ front_text done) left) ∙ e ∙ row-parts w no_values back) in
     absurd (omega (arith, ap (λ x. get_or x 0 0) both.1))
 row-splits (d ∷ done) w (value x xs) left back done_small small e =
-    let both = value-only d w (44 ∷ (front_text done ++ left)) (tail_text (value x xs) ++ 93 ∷ back) done_small.0 small.0
+    let both = value-only d w (44 ∷ (front_text done ++ left)) (tail_text (value x xs) ++ 93 ∷ back) done_small.0
+    small.0
     (λ inner. inner.0 refl) (tail-ends (value x xs) back)
     (sym (append_assoc (value_text d) (44 ∷ front_text done) left) ∙ e ∙ row-parts w (value x xs) back) in
     let inner = row-splits done x xs left back done_small.1 small.1 (ap (λ t. drop 1 t) both.1) in

@@ -65,7 +65,8 @@ pub spent-led : (a : Acceptance) (from : TextStand) (l : SnapshotLine) (n m dths
     → IsKept g → Leads a from l (stand.Behind g)
 spent-led a from l n m dths g is so made kept = (
   moved a from (stand.Spent n m) l (line.Spent dths) (behind (told g)) is so
-      (subst (λ (k : Gathered). Goes a (at_spent n m) (line.Spent dths) (behind k)) (sym made) (gathering.spent n m dths)),
+      (subst (λ (k : Gathered). Goes a (at_spent n m) (line.Spent dths) (behind k)) (sym made)
+      (gathering.spent n m dths)),
   kept,
 )
 
@@ -75,7 +76,10 @@ spent-none a from l n m is other to goes = spent-only other (from-there a from (
 
 pub line-led : (a : Acceptance) (from : TextStand) (l : SnapshotLine) (g h : Gathering) (fits : Bool)
     → from ≡ stand.Behind g → fits ≡ true → LeadsOn l g h fits → Leads a from l (stand.Behind h)
-line-led a from l g h true is so leads = (moved a from (stand.Behind g) l l (behind (told h)) is refl (leads a).0, (leads a).1)
+line-led a from l g h true is so leads = (
+  moved a from (stand.Behind g) l l (behind (told h)) is refl (leads a).0,
+  (leads a).1,
+)
 line-led a from l g h false is so leads = absurd (false≢true so)
 
 pub line-none : (a : Acceptance) (from : TextStand) (l : SnapshotLine) (g h : Gathering) (fits : Bool)

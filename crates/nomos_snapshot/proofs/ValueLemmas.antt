@@ -19,7 +19,8 @@ use Rattle.nomos_snapshot.specs.mirror.ValueReading.{IsScalar, IsInner, Ends}
 -- ---- fronts without comma and `]`
 
 -- such a front and what ends it are the only ones
-pub inner-only : (v w s t : List ℕ) → All IsInner v → All IsInner w → Ends s → Ends t → v ++ s ≡ w ++ t → (v ≡ w) × (s ≡ t)
+pub inner-only : (v w s t : List ℕ) → All IsInner v → All IsInner w → Ends s → Ends t → v ++ s ≡ w ++ t
+    → (v ≡ w) × (s ≡ t)
 inner-only [] [] s t v_inner w_inner s_ends t_ends e = (refl, e)
 inner-only [] (c ∷ w) [] t v_inner w_inner s_ends t_ends e = cc
 inner-only [] (c ∷ w) (b ∷ s) t v_inner w_inner s_ends t_ends e =
@@ -69,7 +70,8 @@ scalar-inner (truth true) is =
     letter 116 (codes "rue") (omega arith) (letter 114 (codes "ue") (omega arith) (letter 117 (codes "e") (omega arith)
     (letter 101 [] (omega arith) (All-nil IsInner))))
 scalar-inner (truth false) is =
-    letter 102 (codes "alse") (omega arith) (letter 97 (codes "lse") (omega arith) (letter 108 (codes "se") (omega arith)
+    letter 102 (codes "alse") (omega arith) (letter 97 (codes "lse") (omega arith)
+    (letter 108 (codes "se") (omega arith)
     (letter 115 (codes "e") (omega arith) (letter 101 [] (omega arith) (All-nil IsInner)))))
 scalar-inner (list vs) is = absurd is
 
@@ -128,11 +130,13 @@ minus-none text digits minus reads =
 
 -- a size, which is not 0
 minus-some : (text digits : List ℕ) (size : ℕ) (answer : Option ℤ) → text ≡ codes "-" ++ digits → size ≤ 2 ^ 63
-    → digits ≡ decimal size → SomeIff answer (0 < size) (neg_ℤ (pos size)) → ReadsAs IsLineNumber signed_decimal text answer
+    → digits ≡ decimal size → SomeIff answer (0 < size) (neg_ℤ (pos size))
+    → ReadsAs IsLineNumber signed_decimal text answer
 minus-some text digits size None minus small written is =
     ReadsAs-none text (λ z is_number e.
     let n = minus-parts digits z is_number (sym minus ∙ e) in
-    let same = decimal-only size (suc n.less) (omega (arith, small)) (omega (arith, n.small)) (sym written ∙ n.written) in
+    let same = decimal-only size (suc n.less) (omega (arith, small)) (omega (arith, n.small))
+    (sym written ∙ n.written) in
     absurd (is (omega (arith, same))))
 minus-some text digits zero (Some z) minus small written is = absurd (omega (arith, is.0))
 minus-some text digits (suc less) (Some z) minus small written is =
@@ -190,7 +194,8 @@ scalar-only (truth c) (list ws) a b e = absurd b
 scalar-only (list vs) w a b e = absurd a
 
 -- a number or truth value, and what ends it
-scalars : (v w : Value) (s t : List ℕ) → IsScalar v → IsScalar w → Ends s → Ends t → value_text v ++ s ≡ value_text w ++ t
+scalars : (v w : Value) (s t : List ℕ) → IsScalar v → IsScalar w → Ends s → Ends t
+    → value_text v ++ s ≡ value_text w ++ t
     → (v ≡ w) × (s ≡ t)
 scalars v w s t a b s_ends t_ends e =
     let both = inner-only (value_text v) (value_text w) s t (scalar-inner v a) (scalar-inner w b) s_ends t_ends e in
@@ -226,7 +231,8 @@ mutual
       absurd (scalar-first (truth c) t tt (sym (ap (λ x. get_or x 0 0) e)))
   value-only (list vs) (list ws) s t a b s_ends t_ends e =
       let inner = rows-only vs ws s t a b
-      (sym (append_assoc (row_text vs) (codes "]") s) ∙ ap (λ x. drop 1 x) e ∙ append_assoc (row_text ws) (codes "]") t) in
+      (sym (append_assoc (row_text vs) (codes "]") s) ∙ ap (λ x. drop 1 x) e ∙ append_assoc (row_text ws) (codes "]")
+      t) in
       (ap list inner.0, inner.1)
 
   -- so are the values of a list behind its `[`

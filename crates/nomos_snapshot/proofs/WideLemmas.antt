@@ -158,7 +158,8 @@ channel-left (passing.shared own found alike) small = small
 channel-left (passing.linear own none found alike) small = small
 
 channels-left : {lists : ProgramLists} {x : Annotations} {j : Judgement} {vs : List VarId}
-    {pars : List (VarId × TypeId)} {k : Judgement} → PassesChannels lists x j vs pars k → AreSmall j.lists → AreSmall k.lists
+    {pars : List (VarId × TypeId)} {k : Judgement} → PassesChannels lists x j vs pars k → AreSmall j.lists
+    → AreSmall k.lists
 channels-left passing.none small = small
 channels-left (passing.channel one others) small = channels-left others (channel-left one small)
 
@@ -197,7 +198,8 @@ module _ {a : Acceptance} (accepted : IsAccepted a) where
           omega (arith, below)
 
   -- the amounts of an instruction, and of a declaration
-  code-amount : (at : ℕ) (n : CodeNode) (r : Amount) → slice_get a.program.code at ≡ Some n → Contains (code_amounts n) r
+  code-amount : (at : ℕ) (n : CodeNode) (r : Amount) → slice_get a.program.code at ≡ Some n
+      → Contains (code_amounts n) r
       → Contains (amounts_of a.program) r
   code-amount at n r found among =
       let in_types : List Amount = flat_map (λ t. type_amounts t.node) a.program.types in
@@ -212,10 +214,12 @@ module _ {a : Acceptance} (accepted : IsAccepted a) where
       let in_types : List Amount = flat_map (λ t. type_amounts t.node) a.program.types in
       let in_code : List Amount = flat_map code_amounts a.program.code in
       let in_procs : List Amount = flat_map proc_amounts a.program.procs in
-      Contains-append_right (in_types ++ in_code) in_procs r (contains-part proc_amounts a.program.procs p d r found among)
+      Contains-append_right (in_types ++ in_code) in_procs r
+      (contains-part proc_amounts a.program.procs p d r found among)
 
   -- the lists with which a declaration starts
-  pars-small : (pars : List Par) → ((r : Amount) → Contains (flat_map par_amounts pars) r → dths a.annotations r < 2 ^ 64)
+  pars-small : (pars : List Par) → ((r : Amount) → Contains (flat_map par_amounts pars) r
+      → dths a.annotations r < 2 ^ 64)
       → AreSmall (flat_map (λ par. list_par a.annotations par.var par.kind par.amount) pars)
   pars-small [] small = All-nil (λ e. e.1.amount < 2 ^ 64)
   pars-small (par ∷ pars) small =

@@ -12,7 +12,8 @@ joined-more first (u ∷ ws) w =
     ∙ sym (append_assoc first (32 ∷ joined (u ∷ ws)) (32 ∷ w))
 
 -- is written behind those before it
-pub word-written : {W : Type 0} (text_of : W → List ℕ) (old text blank new first : List ℕ) (words : List W) (i : ℕ) (w : W)
+pub word-written : {W : Type 0} (text_of : W → List ℕ) (old text blank new first : List ℕ) (words : List W) (i : ℕ)
+    (w : W)
     → i < length words → w ≡ get_or words i w → text ≡ old ++ joined (first ∷ map text_of (take i words))
     → blank ≡ text ++ 32 ∷ [] → new ≡ blank ++ text_of w
     → new ≡ old ++ joined (first ∷ map text_of (take (i + 1) words))

@@ -173,9 +173,9 @@ fn opened<M: Contents + Drop>(
     }
 }
 
-/// The ledger of parts that a text told, or that were made of such, where it may be loaded: its state is typed, its names
-/// of contracts have mode S, its gas is worth its deposits, and nothing of it is ready. Otherwise the first cause why not,
-/// in the order of `LoadError`.
+/// The ledger of parts that a text told, or that were made of such, where it may be loaded: its state is typed, its
+/// names of contracts have mode S, its gas is worth its deposits, and nothing of it is ready. Otherwise the first cause
+/// why not, in the order of `LoadError`.
 pub fn admitted<M: Contents + Drop>(
     alloc: Global,
     accepted: &Accepted,
@@ -209,8 +209,9 @@ fn loaded<M: Contents + Drop>(
 }
 
 /// The ledger of which a text is the snapshot (docs/TEXTS.md, "Snapshots"), or the first cause why it is not loaded, in
-/// the order of `LoadError`. Nothing of the text is believed: it is loaded only where the ledger stands for the program.
-/// A text is loaded as one ledger, whose own snapshot is that text, and a ledger that has a snapshot is loaded from it.
+/// the order of `LoadError`. Nothing of the text is believed: it is loaded only where the ledger stands for the
+/// program. A text is loaded as one ledger, whose own snapshot is that text, and a ledger that has a snapshot is loaded
+/// from it.
 pub fn load<M: Contents + Drop>(
     alloc: Global,
     accepted: &Accepted,

@@ -106,8 +106,8 @@ fn parts_of(alloc: Global, gathering: Gathering) -> Result<LedgerParts, AllocErr
 }
 
 impl Gathering {
-    /// The parts of the ledger that lines told. Where the elements of a list carry more than 64 bits count, which no machine
-    /// can keep, memory is wanting.
+    /// The parts of the ledger that lines told. Where the elements of a list carry more than 64 bits count, which no
+    /// machine can keep, memory is wanting.
     pub fn into_parts(self, alloc: Global) -> Result<LedgerParts, AllocError>
         requires { IsKept self }
         ensures { IfOk result (λ parts. parts_ledger parts ≡ ledger_of (told self)) }

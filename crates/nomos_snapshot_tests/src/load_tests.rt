@@ -118,11 +118,13 @@ const IDLE_TEXTS: [(&str, Answer); 24] = [
         Answer::BadLine(6),
     ),
     (
-        "nomos-ledger 1\nunit 1\nnext 2 2\nspent 0\naccount u 0\nname 1 0\nprocess 1 T 0 offers 1 base - purse 0 payer 0\n",
+        "nomos-ledger 1\nunit 1\nnext 2 2\nspent 0\naccount u 0\nname 1 0\n\
+         process 1 T 0 offers 1 base - purse 0 payer 0\n",
         Answer::NotTyped,
     ),
     (
-        "nomos-ledger 1\nunit 1\nnext 2 2\nspent 0\naccount u 0\nname 1 0\nprocess 1 T 0 offers 1 base - purse 5 payer 0\nchan 2 1\nvalue 1 0\n",
+        "nomos-ledger 1\nunit 1\nnext 2 2\nspent 0\naccount u 0\nname 1 0\n\
+         process 1 T 0 offers 1 base - purse 5 payer 0\nchan 2 1\nvalue 1 0\n",
         Answer::BadLine(9),
     ),
 ];
@@ -157,19 +159,23 @@ const CELLS_TEXTS: [(&str, Answer); 6] = [
         Answer::NotTyped,
     ),
     (
-        "nomos-ledger 1\nunit 1\nnext 2 1\nspent 0\naccount u 0\ncontract z 0\nname 0 3\nprocess 1 S 2 offers 0 base - purse 0 payer 0\n",
+        "nomos-ledger 1\nunit 1\nnext 2 1\nspent 0\naccount u 0\ncontract z 0\nname 0 3\n\
+         process 1 S 2 offers 0 base - purse 0 payer 0\n",
         Answer::Loaded,
     ),
     (
-        "nomos-ledger 1\nunit 1\nnext 2 2\nspent 0\naccount u 0\nname 1 3\nprocess 1 S 0 offers 1 base - purse 0 payer 0\n",
+        "nomos-ledger 1\nunit 1\nnext 2 2\nspent 0\naccount u 0\nname 1 3\n\
+         process 1 S 0 offers 1 base - purse 0 payer 0\n",
         Answer::NotQuiet(1),
     ),
     (
-        "nomos-ledger 1\nunit 1\nnext 9 9\nspent 0\naccount u 0\nname 1 3\nname 2 3\nprocess 1 S 2 offers 1 base - purse 0 payer 0\nprocess 7 S 0 offers 2 base - purse 0 payer 0\n",
+        "nomos-ledger 1\nunit 1\nnext 9 9\nspent 0\naccount u 0\nname 1 3\nname 2 3\n\
+         process 1 S 2 offers 1 base - purse 0 payer 0\nprocess 7 S 0 offers 2 base - purse 0 payer 0\n",
         Answer::NotQuiet(7),
     ),
     (
-        "nomos-ledger 1\nunit 1\nnext 2 2\nspent 0\ncontract p 1\nname 1 3\nprocess 1 S 2 offers 1 base - purse 0 payer 0\n",
+        "nomos-ledger 1\nunit 1\nnext 2 2\nspent 0\ncontract p 1\nname 1 3\n\
+         process 1 S 2 offers 1 base - purse 0 payer 0\n",
         Answer::NotTyped,
     ),
 ];

@@ -38,7 +38,8 @@ pub batch-told : {M : Type 0} {before after : WalkState} {l : LedgerState} {i : 
     → passed.entry ≡ Some (batch_entry line v e)
     → ((batch : Batch) → batch.line ≡ line → after ≡ walk_with (passage_of before.accepted batch v e) before)
     → IsTold before l i passed after
-batch-told {before = before} a limit w v begun ran e passed a_is limit_is begun_is ran_is under runs allowed ledger entry
+batch-told {before = before} a limit w v begun ran e passed a_is limit_is begun_is ran_is under runs allowed ledger
+    entry
     walk =
     let most : ℕ = batch_limit before.limit before.made in
     let here : RunsOn before.accepted most w v =

@@ -63,7 +63,8 @@ pub(crate) fn fire_all<M: Undo>(
     requires may { MayRun accepted.now limit watched.old.world }
     requires watched { IsWatched accepted.now watched.old.world.state watched.old.awake }
     ensures runs { OnOk result (RunsOn accepted.now limit watched.old.world watched.new.world) }
-    ensures end { IfOk result (IsAllowed accepted.now watched.new.world.state (length watched.new.world.firings) limit) }
+    ensures end { IfOk result (IsAllowed accepted.now watched.new.world.state (length watched.new.world.firings)
+        limit) }
 {
     // Where the program is read it is known to be accepted.
     let _program = accepted.program();

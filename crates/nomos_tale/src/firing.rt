@@ -37,8 +37,8 @@ fn push_fired(text: &mut Vec<u8>, actor: Actor<'_>) -> Result<(), AllocError>
     Ok(())
 }
 
-/// Fires a process that is ready, and tells what it did. Where its instruction has a fault, nothing is told, and the end
-/// of the batch is given.
+/// Fires a process that is ready, and tells what it did. Where its instruction has a fault, nothing is told, and the
+/// end of the batch is given.
 pub(crate) fn fire_told<M: Undo>(
     alloc: Global,
     accepted: &Accepted,

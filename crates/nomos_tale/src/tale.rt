@@ -125,9 +125,9 @@ fn tell_items<M: Undo + Drop>(
 
 /// The tale of a script, which is run from the empty ledger in this order, where a batch may make at most so many
 /// firings, from 1 to 10,000,000; where that is not said, as many as the journal says which is kept, or else 1,000,000.
-/// It is the text of its journal in version 2, in which ` : ` and words stand behind each firing, and a line that begins
-/// with `:` for each process that a line of the script starts (docs/TEXTS.md, "The tale"). Nothing is promised of what
-/// it says.
+/// It is the text of its journal in version 2, in which ` : ` and words stand behind each firing, and a line that
+/// begins with `:` for each process that a line of the script starts (docs/TEXTS.md, "The tale"). Nothing is promised
+/// of what it says.
 pub fn tell<M: Undo + Drop>(
     alloc: Global,
     accepted: &Accepted,

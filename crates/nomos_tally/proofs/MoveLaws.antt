@@ -43,7 +43,8 @@ moves-both a b c less_one more_one less_other more_other less more one other bal
   counts = λ yes d name.
       omega (arith, one.counts (other.exact yes) d name, other.counts yes d name, balanced d name);
   suspects = λ yes.
-      suspects-both a.names.now b.names.now c.names.now a.suspects b.suspects c.suspects (one.suspects (other.exact yes))
+      suspects-both a.names.now b.names.now c.names.now a.suspects b.suspects c.suspects
+      (one.suspects (other.exact yes))
       (other.suspects yes);
   marked = other.marked ∙ one.marked;
 }

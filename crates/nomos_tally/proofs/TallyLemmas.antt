@@ -75,7 +75,8 @@ module _ (tallies : List (Slot Tally)) (ascending : IsAscending tallies) (place 
         | inr other ↦ omega (arith, other-after d n other, other-counted a d name n other)
       ]
 
-  -- whoever was a suspect, if nothing was done with it, is one still, where this name is one as soon as its tally says so
+  -- whoever was a suspect, if nothing was done with it, is one still, where this name is one as soon as its tally says
+  -- so
   pub less-suspects : (was is : Suspicion) → (is.lost ≡ false → was.lost ≡ false)
       → (is.lost ≡ false → (n : ℕ) → Contains was.names n → Contains is.names n)
       → (is.lost ≡ false → ((d : Doing) → counted d next ≡ 0) → Contains is.names name)
@@ -86,7 +87,8 @@ module _ (tallies : List (Slot Tally)) (ascending : IsAscending tallies) (place 
         elim (cases_eq name n) [
           | inl same ↦
               subst (Contains is.names) same
-              (suspected known (λ d. sym (own-after d) ∙ subst (λ (m : ℕ). tallied changed d m ≡ 0) (sym same) (idle d)))
+              (suspected known (λ d. sym (own-after d) ∙ subst (λ (m : ℕ). tallied changed d m ≡ 0) (sym same)
+              (idle d)))
           | inr other ↦ kept known n (if_idle (λ d. sym (other-after d n other) ∙ idle d))
         ],
   )
@@ -133,7 +135,8 @@ pub come-counted : (tallies : List (Slot Tally)) (name : ℕ) (t : Tally) → Al
 come-counted tallies name t below none d n =
     elim (cases_eq name n) [
       | inl same ↦
-          subst (λ (m : ℕ). tallied (tallies ++ (record { number = name; item = Some t }) ∷ []) d m ≡ tallied tallies d m)
+          subst (λ (m : ℕ). tallied (tallies ++ (record { number = name; item = Some t }) ∷ []) d m ≡ tallied tallies d
+          m)
           same
           (ap (counted_in d) (found-push tallies (record { number = name; item = Some t }) below)
           ∙ none d

@@ -61,7 +61,8 @@ impl fmt::Display for Failure {
         match *self {
             Failure::OtherWords => write!(
                 f,
-                "usage: nomos-tell FILE SCRIPT [--policy first | --policy round | --seed N | --journal FILE] [--steps N]"
+                "usage: nomos-tell FILE SCRIPT [--policy first | --policy round | --seed N | --journal FILE] \
+                 [--steps N]"
             ),
             Failure::Unread(text) => write!(f, "nomos-tell: the {text} could not be read"),
             Failure::TooLong(text) => write!(f, "nomos-tell: the {text} is too long"),

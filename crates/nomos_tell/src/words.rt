@@ -15,8 +15,8 @@ pub(crate) enum OrderWord<'a> {
     Journal(&'a str),
 }
 
-/// What is asked for: the tale of the script in the second file on the contract in the first, in this order, and the most
-/// firings of a batch, where that is said, from 1 to 10,000,000.
+/// What is asked for: the tale of the script in the second file on the contract in the first, in this order, and the
+/// most firings of a batch, where that is said, from 1 to 10,000,000.
 #[derive(Clone, Copy, Debug)]
 pub(crate) struct Call<'a> {
     pub(crate) contract: &'a str,

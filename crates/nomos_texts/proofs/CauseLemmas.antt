@@ -46,7 +46,8 @@ pub shortage_whole : (unit : ℕ) → unit < 2 ^ 32 → (text rest : List ℕ) �
 shortage_whole unit small text rest front lacks =
     ReadsAs-none text (λ s is same.
     let parts = has_parts unit rest s (sym front ∙ same) in
-    let lacks' : Lacks 32 (gas_text s.has unit ++ 32 ∷ (codes "needs " ++ gas_text s.needs unit)) = rw (← parts) lacks in
+    let lacks' : Lacks 32 (gas_text s.has unit ++ 32 ∷ (codes "needs " ++ gas_text s.needs unit)) =
+    rw (← parts) lacks in
     Lacks-apart 32 (gas_text s.has unit) (codes "needs " ++ gas_text s.needs unit) lacks')
 
 -- without what there is
@@ -80,11 +81,13 @@ pub shortage_needs : (unit : ℕ) → unit < 2 ^ 32 → (text rest front back la
     → ReadsAs IsShortage (shortage_text unit) text None
 shortage_needs unit small text rest front back last begins apart behind reads =
     ReadsAs-none text (λ s is same.
-    let none = reads.each s.needs is.1 (needs_part unit small rest front back last s is (sym begins ∙ same) apart behind) in
+    let none = reads.each s.needs is.1 (needs_part unit small rest front back last s is (sym begins ∙ same) apart
+    behind) in
     cc)
 
 -- with both
-pub shortage_both : (unit : ℕ) → unit < 2 ^ 32 → (text rest front back last : List ℕ) (has needs : ℕ) → text ≡ codes "has " ++ rest
+pub shortage_both : (unit : ℕ) → unit < 2 ^ 32 → (text rest front back last : List ℕ) (has needs : ℕ)
+    → text ≡ codes "has " ++ rest
     → ComesApart 32 rest front back → back ≡ codes "needs " ++ last → ReadsGas unit front (Some has)
     → ReadsGas unit last (Some needs)
     → ReadsAs IsShortage (shortage_text unit) text (Some (record { has = has; needs = needs }))
@@ -144,7 +147,8 @@ lacking unit rest (refusal.NoGas name has needs) is same =
 lacking unit rest refusal.TooMuchGas is same = absurd (omega (arith, ap (λ t. get_or t 2 0) same))
 
 -- the name and the amounts
-lacking_parts : (unit : ℕ) (rest front back : List ℕ) (e : Refusal) (l : Lacking unit rest e) → ComesApart 32 rest front back
+lacking_parts : (unit : ℕ) (rest front back : List ℕ) (e : Refusal) (l : Lacking unit rest e)
+    → ComesApart 32 rest front back
     → (front ≡ l.name) × (back ≡ shortage_text unit (record { has = l.has; needs = l.needs }))
 lacking_parts unit rest front back e l apart =
     ComesApart-parts 32 rest front back l.name (shortage_text unit (record { has = l.has; needs = l.needs })) apart
@@ -167,7 +171,8 @@ pub no_gas_amounts : (unit : ℕ) (rest front back : List ℕ) → ComesApart 32
 no_gas_amounts unit rest front back apart reads =
     ReadsAs-none (codes "NoGas " ++ rest) (λ e is same.
     let l = lacking unit rest e is same in
-    let none = reads.each (record { has = l.has; needs = l.needs }) l.small (lacking_parts unit rest front back e l apart).1 in
+    let none = reads.each (record { has = l.has; needs = l.needs }) l.small
+    (lacking_parts unit rest front back e l apart).1 in
     cc)
 
 -- without a name

@@ -30,7 +30,14 @@ aborts unit rest end.Committed is same = absurd (omega (arith, ap (λ t. get_or 
 aborts unit rest end.Blocked is same = absurd (omega (arith, ap (λ t. get_or t 0 0) same))
 aborts unit rest (end.Aborted pid f) is same =
     let behind : rest ≡ (decimal pid ++ 32 ∷ []) ++ fault_text f = ap (λ t. drop 8 t) same in
-    record { pid = pid; fault = f; small = is; is = refl; parts = behind ∙ append_assoc (decimal pid) (32 ∷ []) (fault_text f) }
+    record {
+      pid = pid;
+      fault = f;
+      small = is;
+      is = refl;
+      parts = behind ∙ append_assoc (decimal pid) (32 ∷ [])
+          (fault_text f);
+    }
 aborts unit rest (end.Steps k) is same = absurd (omega (arith, ap (λ t. get_or t 0 0) same))
 aborts unit rest (end.Refused m cause) is same = absurd (omega (arith, ap (λ t. get_or t 0 0) same))
 
@@ -145,7 +152,8 @@ refuses unit rest (end.Refused m cause) is same =
     }
 
 -- the line and the cause
-refused_parts : (unit : ℕ) (rest front back : List ℕ) (e : End) (r : Refuses unit rest e) → ComesApart 32 rest front back
+refused_parts : (unit : ℕ) (rest front back : List ℕ) (e : End) (r : Refuses unit rest e)
+    → ComesApart 32 rest front back
     → (front ≡ decimal r.line) × (back ≡ cause_text unit r.cause)
 refused_parts unit rest front back e r apart =
     ComesApart-parts 32 rest front back (decimal r.line) (cause_text unit r.cause) apart
@@ -232,4 +240,8 @@ pub plain_reads : (unit : ℕ) (text : List ℕ) (answer : Option End)
     → ((rest : List ℕ) → text ≢ codes "refused at " ++ rest) → ReadsAs IsPlainEnd (end_text unit) text answer
     → ReadsAs IsEnd (end_text unit) text answer
 plain_reads unit text answer no_fault no_steps no_refusal reads =
-    record { found = plain_found unit text answer reads; each = plain_each unit text answer no_fault no_steps no_refusal reads }
+    record {
+      found = plain_found unit text answer reads;
+      each = plain_each unit text answer no_fault no_steps no_refusal
+          reads;
+    }

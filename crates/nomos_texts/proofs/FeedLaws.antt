@@ -36,7 +36,8 @@ feedless_gas unit n unit_small small = elim (eqb_tells unit 1) [
   | inr parts ↦
       rw (gas_text-parts n unit parts.1)
       (Lacks-append 10 (decimal n) (codes "/" ++ decimal unit) (feedless_number n small)
-      (Lacks-append 10 (codes "/") (decimal unit) (Lacks-tested 10 (codes "/") refl) (feedless_number unit (omega arith))))
+      (Lacks-append 10 (codes "/") (decimal unit) (Lacks-tested 10 (codes "/") refl)
+      (feedless_number unit (omega arith))))
 ]
 
 -- a fault
@@ -80,7 +81,8 @@ feedless_pair : (word number text : List ℕ) → Lacks 10 word → Lacks 10 num
     → Lacks 10 (word ++ number ++ codes " " ++ text)
 feedless_pair word number text a b d =
     Lacks-append 10 (word ++ number ++ codes " ") text
-    (Lacks-append 10 (word ++ number) (codes " ") (Lacks-append 10 word number a b) (Lacks-tested 10 (codes " ") refl)) d
+    (Lacks-append 10 (word ++ number) (codes " ") (Lacks-append 10 word number a b) (Lacks-tested 10 (codes " ") refl))
+    d
 
 -- an end
 pub feedless_end : (unit : ℕ) (e : End) → unit < 2 ^ 32 → IsEnd e → Lacks 10 (end_text unit e)

@@ -21,10 +21,17 @@ IsPlain-decimal n small = elim (cases_lt 0 n) [
       let first = first_decimal n above small in
       let some = decimal_nonempty n small in
       let within = digit_at (decimal n) 0 (digits_decimal own n small) some in
-      record { some = some; low = omega (arith, first); high = omega (arith, within); zero = λ e. absurd (omega (arith, e, first)) }
+      record {
+        some = some;
+        low = omega (arith, first);
+        high = omega (arith, within);
+        zero =
+            λ e. absurd (omega (arith, e, first));
+      }
   | inr none ↦
       let is_zero : n ≡ 0 = omega arith in
-      rw (is_zero, decimal_digit 0 (omega arith)) (record { some = omega arith; low = omega arith; high = omega arith; zero = λ e. refl })
+      rw (is_zero, decimal_digit 0 (omega arith))
+      (record { some = omega arith; low = omega arith; high = omega arith; zero = λ e. refl })
 ]
 
 -- a text that begins like a number is what is written of the one that it is parsed as

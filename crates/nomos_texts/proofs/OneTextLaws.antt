@@ -65,9 +65,11 @@ shortage_itself : (unit : ℕ) → unit < 2 ^ 32 → ReadsItself IsShortage (sho
 shortage_itself unit unit_small s is =
     let has = gas_text s.has unit in
     let needs = gas_text s.needs unit in
-    shortage_both unit unit_small (shortage_text unit s) ((has ++ codes " needs ") ++ needs) has (codes "needs " ++ needs)
+    shortage_both unit unit_small (shortage_text unit s) ((has ++ codes " needs ") ++ needs) has
+    (codes "needs " ++ needs)
     needs s.has s.needs refl
-    (record { lacks = Lacks-gas_text unit s.has unit_small is.0; joined = append_assoc has (codes " needs ") needs }) refl
+    (record { lacks = Lacks-gas_text unit s.has unit_small is.0; joined = append_assoc has (codes " needs ") needs })
+    refl
     (gas_itself unit unit_small s.has is.0) (gas_itself unit unit_small s.needs is.1)
 
 account_only : (unit : ℕ) (name : List ℕ) (b : Refusal) → cause_text unit (refusal.NoAccount name) ≡ cause_text unit b
@@ -88,11 +90,13 @@ process_only unit name (refusal.NameTaken other) same = absurd (omega (arith, ap
 process_only unit name (refusal.NoGas other has needs) same = absurd (omega (arith, ap (λ t. get_or t 2 0) same))
 process_only unit name refusal.TooMuchGas same = absurd (omega (arith, ap (λ t. get_or t 2 0) same))
 
-arguments_only : (unit : ℕ) (name : List ℕ) (b : Refusal) → cause_text unit (refusal.BadArguments name) ≡ cause_text unit b
+arguments_only : (unit : ℕ) (name : List ℕ) (b : Refusal) → cause_text unit (refusal.BadArguments name) ≡ cause_text
+    unit b
     → Some (refusal.BadArguments name) ≡ Some b
 arguments_only unit name (refusal.NoAccount other) same = absurd (omega (arith, ap (λ t. get_or t 2 0) same))
 arguments_only unit name (refusal.NoProcess other) same = absurd (omega (arith, ap (λ t. get_or t 2 0) same))
-arguments_only unit name (refusal.BadArguments other) same = ap (λ n. Some (refusal.BadArguments n)) (ap (λ t. drop 13 t) same)
+arguments_only unit name (refusal.BadArguments other) same = ap (λ n. Some (refusal.BadArguments n))
+    (ap (λ t. drop 13 t) same)
 arguments_only unit name (refusal.NameTaken other) same = absurd (omega (arith, ap (λ t. get_or t 2 0) same))
 arguments_only unit name (refusal.NoGas other has needs) same = absurd (omega (arith, ap (λ t. get_or t 2 0) same))
 arguments_only unit name refusal.TooMuchGas same = absurd (omega (arith, ap (λ t. get_or t 2 0) same))

@@ -72,7 +72,8 @@ pub fn read_u32(text: &[u8]) -> Option<u32>
 
 // The number with one more digit, where 128 bits hold it.
 fn add_digit(count: u128, digit: u8) -> Option<u128>
-    ensures { 48 ≤ digit → digit ≤ 57 → SomeIff result (count * 10 + (digit - 48) < 2 ^ 128) (count * 10 + (digit - 48)) }
+    ensures { 48 ≤ digit → digit ≤ 57 → SomeIff result (count * 10 + (digit - 48) < 2 ^ 128)
+        (count * 10 + (digit - 48)) }
 {
     let digit = digit.checked_sub(b'0')?;
     count.checked_mul(10)?.checked_add(u128::from(digit))

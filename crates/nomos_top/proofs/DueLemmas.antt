@@ -274,7 +274,8 @@ module _ (s : Sources) where
         script_told = (some_text s.script.left).1;
         third_told = (some_text s.third.left).1;
         holds =
-            rw (gives, untaken, none) (outcome.benched seed bidders a d.due.status d.due.out.items d.due.journal is due);
+            rw (gives, untaken, none) (outcome.benched seed bidders a d.due.status d.due.out.items d.due.journal is
+            due);
       }
 
   pub part-bench : (seed bidders : ℕ) (a : Acceptance) (part : DoneSoFar) → IsAcceptedAs load_contract a

@@ -167,7 +167,8 @@ done-asks c t (view.wanting m) done =
 
 done-course : (c : Call) (t : Texts) → EndsOn c t → IsDone c.status → AsksAlone c ⊎ Course c t
 done-course c t e done =
-    let (task, asks) = done-asks c t (end-view c t e) done in either task asks ((kept-is_legal c t e).done task asks done)
+    let (task, asks) = done-asks c t (end-view c t e) done in
+    either task asks ((kept-is_legal c t e).done task asks done)
   where
     either : (task : Task) → Asks c.words task → IsAlone task ⊎ CarriesOut c t → AsksAlone c ⊎ Course c t
     either task asks (inl alone) = inl (task, asks, alone)

@@ -348,7 +348,8 @@ words-follow c t e status out kept (view.task_asked task asks due) policy run on
     either (inl none) = follows-none policy run.a run.passages (run.tells.entries_are ∙ none)
     either (inr (a, gives, r)) = follows-same c t status out kept task a (e.fits a gives) gives asks r policy run one
 
-end-follows : (c : Call) (t : Texts) → EndsOn c t → EndView c t → c.status ≢ 7 → (policy : Policy) (run : CarriesOut c t)
+end-follows : (c : Call) (t : Texts) → EndsOn c t → EndView c t → c.status ≢ 7
+    → (policy : Policy) (run : CarriesOut c t)
     → IsByOne run.task policy → FollowPolicy policy run.a run.passages
 end-follows c t e (view.all w) seven policy run one = words-follow c t e c.status w.out w.kept w.view policy run one
 end-follows c t e (view.failed f) seven policy run one =

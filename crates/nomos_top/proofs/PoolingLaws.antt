@@ -69,7 +69,8 @@ gathered-taken : (c : Call) (t : Texts) (file script : List ℕ) (threads : ℕ)
 gathered-taken c t file script threads taken items asks is was (read, reads, fair) =
     let both : Some items ≡ Some taken = sym was ∙ is in
     let same : items ≡ taken = cc in
-    let here : PoolsTo threads read (Ok taken) = subst (λ (xs : List ScriptItem). PoolsTo threads read (Ok xs)) same fair in
+    let here : PoolsTo threads read (Ok taken) = subst (λ (xs : List ScriptItem). PoolsTo threads read (Ok xs)) same
+    fair in
     record {
       items = read;
       reads = reads;

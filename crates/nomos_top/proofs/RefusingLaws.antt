@@ -282,8 +282,10 @@ module _ (c : Call) (t : Texts) (e : EndsOn c t) where
       absurd (bad_script-unread task line bad (talk-alone task reads) items h)
   bad_script-missed task a first line accepted begins bad status l (view.unloaded why reads loads) =
       absurd
-      (let both : Ok first ≡ Err why = loads-one accepted (snapshot-begins task reads a t.third first begins) loads in cc)
-  bad_script-missed task a first line accepted begins bad status l (view.unsaved items j ps last why keeps h ran worse) =
+      (let both : Ok first ≡ Err why = loads-one accepted (snapshot-begins task reads a t.third first begins) loads in
+      cc)
+  bad_script-missed task a first line accepted begins bad status l
+      (view.unsaved items j ps last why keeps h ran worse) =
       absurd (bad_script-unread task line bad (saved-alone task keeps) items h)
 
   bad_script-further : (task : Task) (a : Acceptance) (first : LedgerState) (line : List ℕ) → ReadsScript task
@@ -458,7 +460,8 @@ module _ (c : Call) (t : Texts) (e : EndsOn c t) where
   unloaded-missed task a why accepted reads bad status l (view.bad_talk items m reads2 h worse) =
       absurd (talk-no_snapshot task reads2 reads)
   unloaded-missed task a why accepted reads bad status l (view.unloaded why2 reads2 loads) = inl refl
-  unloaded-missed task a why accepted reads bad status l (view.unsaved items j ps last why2 keeps h ran worse) = inl refl
+  unloaded-missed task a why accepted reads bad status l (view.unsaved items j ps last why2 keeps h ran worse) =
+      inl refl
 
   -- a ledger that is not saved: nothing else is due behind its script
   unsaved-missed : (task : Task) (a : Acceptance) (last : LedgerState) → KeepsSnapshot task → IsLastLedger t a last

@@ -182,10 +182,14 @@ journal-not_refused (run file words by steps kept) a accepted reads script items
 journal-not_refused (replay file words kept) a accepted reads script items is text journal own why refused =
     legal-not_refused accepted script is own.1 refused
 journal-not_refused (bench seed bidders) a accepted reads script items is text journal own why refused = absurd reads
-journal-not_refused (pool file words threads) a accepted reads script items is text journal own why refused = absurd reads
-journal-not_refused (talk file words name proc says) a accepted reads script items is text journal own why refused = absurd reads
-journal-not_refused (save file words snapshot) a accepted reads script items is text journal own why refused = absurd reads
-journal-not_refused (resume file snapshot words) a accepted reads script items is text journal own why refused = absurd reads
+journal-not_refused (pool file words threads) a accepted reads script items is text journal own why refused =
+    absurd reads
+journal-not_refused (talk file words name proc says) a accepted reads script items is text journal own why refused =
+    absurd reads
+journal-not_refused (save file words snapshot) a accepted reads script items is text journal own why refused =
+    absurd reads
+journal-not_refused (resume file snapshot words) a accepted reads script items is text journal own why refused =
+    absurd reads
 journal-not_refused (least file) a accepted reads script items is text journal own why refused = absurd reads
 
 -- what became of a script: one journal, one row of passages and one last ledger
@@ -248,7 +252,8 @@ module _ (c d : Call) (t : Texts) where
   carried-reads : (k : Call) (task : Task) → ¬ (IsPooled task) → (a : Acceptance) (o : Outcome)
       (r : Carried (inputs_of k t) task o a) → ReadsAs (script_of task t.script) r.items
   carried-reads k task alone a o r =
-      subst (λ (n : Option ℕ). CarriesBy n o.taken (script_of task t.script) r.items) (unpooled-alone task alone) r.script
+      subst (λ (n : Option ℕ). CarriesBy n o.taken (script_of task t.script) r.items) (unpooled-alone task alone)
+      r.script
 
   -- what became of a script is one: for a replay it is what its text tells, and otherwise one worker fires
   course-one : (task : Task) → ¬ (Waits task) → (a : Acceptance) → IsAccepted a → (o p : Outcome)
@@ -284,7 +289,8 @@ module _ (c d : Call) (t : Texts) where
   kept-one task a o p r q (journals, passages, lasts) (inr (inl keeps)) =
       let mine = r.saves keeps in
       let theirs = q.saves keeps in
-      let here : Saves a q.last (Ok mine.text) = subst (λ (l : LedgerState). Saves a l (Ok mine.text)) lasts mine.saves in
+      let here : Saves a q.last (Ok mine.text) = subst (λ (l : LedgerState). Saves a l (Ok mine.text)) lasts
+      mine.saves in
       let both : Ok mine.text ≡ Ok theirs.text = saves-one here theirs.saves in
       let texts : mine.text ≡ theirs.text = cc in
       mine.kept ∙ ap (λ (x : List ℕ). Some x) texts ∙ sym theirs.kept
@@ -475,7 +481,8 @@ module _ (c d : Call) (t : Texts) where
   missed-one task one a accepted status line other also (view.unloaded why reads loads)
       (view.bad_script first l2 reads2 begins bad2) =
       absurd
-      (let both : Ok first ≡ Err why = loads-one accepted (snapshot-begins task reads a t.third first begins) loads in cc)
+      (let both : Ok first ≡ Err why = loads-one accepted (snapshot-begins task reads a t.third first begins) loads in
+      cc)
   missed-one task one a accepted status line other also (view.unloaded why reads loads)
       (view.bad_journal items2 why2 reads2 h2 answers2) =
       absurd (one-third task reads2 (inr reads))

@@ -133,7 +133,8 @@ module _ (c : Call) (t : Texts) (e : EndsOn c t) (r : CarriesOut c t) (text : Li
       let both : Ok r.last ≡ Err why = loads-one accepted (loads a is) bad in cc both
   missed-loaded a accepted is n line (view.unsaved items journal ps last why keeps2 h run bad) eleven = keeps2
 
-  due-loaded : (out : List ℕ) (kept : Option (List ℕ)) → DueView (inputs_of d u) other (outcome_with d d.status out kept)
+  due-loaded : (out : List ℕ) (kept : Option (List ℕ))
+      → DueView (inputs_of d u) other (outcome_with d d.status out kept)
       → d.status ≢ 11
   due-loaded out kept (view.against (view.fault reads rose n is) idle none) eleven = omega (arith, n, eleven)
   due-loaded out kept (view.against (view.refused why h n is) idle none) eleven = omega (arith, n, eleven)

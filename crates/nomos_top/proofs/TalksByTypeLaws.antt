@@ -66,7 +66,8 @@ talk-told c t e r file script name proc text asks done =
         → IsTalkTold c t r name proc
     either out kept wrote (inl alone) = absurd alone
     either out kept wrote (inr (a, gives, run)) =
-        let seen = seen-as c t (talk file script name proc text) c.status out kept a (e.fits a gives) gives asks run r in
+        let seen = seen-as c t (talk file script name proc text) c.status out kept a (e.fits a gives) gives asks run
+        r in
         seen-told c t r name proc out kept a run.passages run.last seen.programs seen.passages seen.last wrote run.talks
 
 -- ---- nothing goes wrong

@@ -555,7 +555,8 @@ written-view status out kept so jo ended (writing.journal_fault text is wrote ro
 -- ---- where memory was wanting
 
 -- what became of some first items
-pub record CarriedSome (i : Inputs) (task : Task) (journal : Journal) (taken : Option (List ScriptItem)) (a : Acceptance)
+pub record CarriedSome (i : Inputs) (task : Task) (journal : Journal) (taken : Option (List ScriptItem))
+    (a : Acceptance)
     : Type 0 where
   pub runs : RunsScript task
   pub first : LedgerState

@@ -34,7 +34,8 @@ module _ (told : Told) (is_told : IsTold told) where
   )
 
   -- a mode was found: the name has another one exactly where that is the same
-  pub mode-exact : IsProgram (program_of told) → (name : ℕ) (own m : Mode) (answer : Bool) → mode_in told name ≡ Some own
+  pub mode-exact : IsProgram (program_of told) → (name : ℕ) (own m : Mode) (answer : Bool)
+      → mode_in told name ≡ Some own
       → (IsTrue answer ↔ (own ≡ m)) → IsTrue answer ↔ InMode name m
   mode-exact is_program name own m answer is exact = (
     λ same. (found-mode is_program name m).0 (is ∙ ap Some (exact.0 same)),

@@ -77,7 +77,8 @@ module _ {lists : ProgramLists} (is_program : IsProgram lists) where
       All-contains (IsAmountOf lists) (amounts_of lists) r (amounts-are_of lists is_program.amounts)
       (Contains-append_left (in_types ++ in_code) in_procs r (Contains-append_left in_types in_code r among))
 
-  pub unfolded-amount : (t : ℕ) (n : TypeNode) (r : Amount) → Unfolds lists t n → paid_by n ≡ Some r → IsAmountOf lists r
+  pub unfolded-amount : (t : ℕ) (n : TypeNode) (r : Amount) → Unfolds lists t n → paid_by n ≡ Some r
+      → IsAmountOf lists r
   unfolded-amount t n r unfolds pays =
       let (s, there) = unfolded-there lists t n unfolds in
       node-amount s n r there pays

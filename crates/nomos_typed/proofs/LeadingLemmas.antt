@@ -10,7 +10,8 @@ use Rattle.nomos_typed.specs.declared.leading.Led.{Led}
 use Rattle.nomos_typed.specs.declared.leading.Onward.{Onward}
 use Rattle.nomos_typed.specs.mirror.Leading.{AreLed, IsLed, PushesOnward, first, further, led_from}
 
--- Those that are there lead to bases, the first ones among them, and what one comes to from the first n of them is there.
+-- Those that are there lead to bases, the first ones among them, and what one comes to from the first n of them is
+-- there.
 pub record IsLeading (start : List Led) (onwards : List Onward) (led : List Led) (n : ℕ) : Type 0 where
   pub within : n ≤ length led
   pub starts : (l : Led) → Contains start l → Contains led l
@@ -48,7 +49,8 @@ module _ (start : List Led) (onwards : List Onward) where
 
       sound : (k : Led) → Contains new k → IsLed start onwards k.base k.name
       sound k there =
-          elim (Contains-append_cases led pushes.more k (subst (λ (ls : List Led). Contains ls k) pushes.pushed there)) [
+          let own = subst (λ (ls : List Led). Contains ls k) pushes.pushed there in
+          elim (Contains-append_cases led pushes.more k own) [
             | inl old ↦ leading.sound k old
             | inr among ↦
                 let (base, onward) = All-contains (λ (j : Led). (j.base ≡ l.base)
@@ -245,7 +247,8 @@ module _ (onwards : List Onward) where
 led-by : (start : List Led) (xs ys : List Onward) → ((o : Onward) → Contains xs o → Contains ys o) → (base name : ℕ)
     → IsLed start xs base name → IsLed start ys base name
 led-by start xs ys moved base _ (first l among is) = first l among is
-led-by start xs ys moved base _ (further o among is) = further o (moved o among) (led-by start xs ys moved base o.end is)
+led-by start xs ys moved base _ (further o among is) =
+    further o (moved o among) (led-by start xs ys moved base o.end is)
 
 pub led-permuted : (start : List Led) (xs ys : List Onward) (led : List Led) → IsPermutation xs ys
     → AreLed start ys led → AreLed start xs led

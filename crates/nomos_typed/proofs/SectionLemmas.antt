@@ -76,17 +76,20 @@ onward-there m name end provides ends = by-way m.to_client refl
         → Contains (onward_of (object.Message m)) (record { end = end; name = name })
     by-way true is =
         let from : m.from ≡ name =
-        contains-one m.from name (subst (λ (w : Bool). Contains (cond w (m.from ∷ []) (option_to_list m.next)) name) is provides) in
+        contains-one m.from name (subst (λ (w : Bool). Contains (cond w (m.from ∷ []) (option_to_list m.next)) name) is
+        provides) in
         let next : Contains (option_to_list m.next) end =
         subst (λ (w : Bool). Contains (cond w (option_to_list m.next) (m.from ∷ [])) end) is ends in
         contains-map (onward_by m.to_client m.from) (option_to_list m.next) end (record { end = end; name = name }) next
         (ap (λ (w : Bool). onward_by w m.from end) is ∙ (λ i. record { end = end; name = from i }))
     by-way false is =
         let from : m.from ≡ end =
-        contains-one m.from end (subst (λ (w : Bool). Contains (cond w (option_to_list m.next) (m.from ∷ [])) end) is ends) in
+        contains-one m.from end (subst (λ (w : Bool). Contains (cond w (option_to_list m.next) (m.from ∷ [])) end) is
+        ends) in
         let next : Contains (option_to_list m.next) name =
         subst (λ (w : Bool). Contains (cond w (m.from ∷ []) (option_to_list m.next)) name) is provides in
-        contains-map (onward_by m.to_client m.from) (option_to_list m.next) name (record { end = end; name = name }) next
+        contains-map (onward_by m.to_client m.from) (option_to_list m.next) name (record { end = end; name = name })
+        next
         (ap (λ (w : Bool). onward_by w m.from name) is ∙ (λ i. record { end = from i; name = name }))
 
 there-onward : (m : Message) (o : Onward) → Contains (onward_of (object.Message m)) o
@@ -142,7 +145,8 @@ module _ (objects : List Object) (base : ℕ) where
   led-process : (p : Process) (l : Led) → Contains objects (object.Process p) → (m : Mode) → p.mode ≡ m
       → Contains (led_by m p.offers p.base) l → l.base ≡ base → LeadsToBase objects base l.name
   led-process p l there mode.L is_l among is =
-      let (b, inside, same) = contains-unmap (λ (b : ℕ). record { name = p.offers; base = b }) (option_to_list p.base) l among in
+      let (b, inside, same) = contains-unmap (λ (b : ℕ). record { name = p.offers; base = b }) (option_to_list p.base) l
+      among in
       let offers : p.offers ≡ l.name = ap (λ (k : Led). k.name) same in
       let based : b ≡ base = ap (λ (k : Led). k.base) same ∙ is in
       subst (λ (n : ℕ). LeadsToBase objects base n) offers
@@ -233,7 +237,8 @@ module _ (told : Told) (is_told : IsTold told) (is_program : IsProgram (program_
           shared = has.t.shared;
           found = found-here from.l.base has.t.shared talk.shared;
           synchronizing =
-              subst (λ (u : TypeId). IsSynchronizingAt (program_of told) (acceptance_of told).annotations u has.t.shared)
+              subst (λ (u : TypeId). IsSynchronizingAt (program_of told) (acceptance_of told).annotations u
+              has.t.shared)
               own has.back;
         };
         within = talk.shared_in;

@@ -189,7 +189,8 @@ names-more a talks i t inside is names new false exact are more name =
     subst (λ (ns : List ℕ). Contains ns name ↔ HasBack a (take (i + 1) talks) name) (sym (more ∙ append-nil names))
     (back-same a talks i t inside is names are (λ back. let wrong : false ≡ true = exact.1 back in absurd cc) name)
 
-pub decided-here : (a : Acceptance) (d : Decided) (t : Talk) → d.talk ≡ t → IsDecided a d → IsTrue d.is_back ↔ IsBack a t
+pub decided-here : (a : Acceptance) (d : Decided) (t : Talk) → d.talk ≡ t → IsDecided a d
+    → IsTrue d.is_back ↔ IsBack a t
 decided-here a d t same is = subst (λ (u : Talk). IsTrue d.is_back ↔ IsBack a u) same is
 
 -- both amounts of what stands behind ends of sections are amounts of the program

@@ -16,7 +16,8 @@ use Rattle.nomos_typed.specs.Messages.{AreMessagesTyped}
 use Rattle.nomos_typed.specs.Owning.{AreNamesMentioned, AreNamesOwned}
 use Rattle.nomos_typed.specs.Sections.{AreInSections}
 
--- A process stands at its place: it has what some judgement says that stands there, its purse covers its lists, and with
+-- A process stands at its place: it has what some judgement says that stands there, its purse covers its lists, and
+-- with
 -- what is left of it the judgement has a derivation.
 pub record IsPlaced (a : Acceptance) (types : NameTypes) (p : Process) : Type 0 where
   pub place : Judgement

@@ -23,8 +23,8 @@ fn entry_fits(value: &(VarId, Value), kind: &(VarId, Kind)) -> bool
     value.0 == kind.0 && has_kind(value.1.node(), kind.1)
 }
 
-/// Whether values, each with its variable in order of number, are of these kinds: for each variable a value of its kind,
-/// and nothing besides. Both lists are walked once.
+/// Whether values, each with its variable in order of number, are of these kinds: for each variable a value of its
+/// kind, and nothing besides. Both lists are walked once.
 pub fn values_fit(values: &[(VarId, Value)], kinds: &[(VarId, Kind)]) -> bool
     requires values { IsAscending values.now }
     requires kinds { IsAscending kinds.now }

@@ -82,8 +82,8 @@ fn are_tied(
     Ok(stand_once(wanted.as_slice(), found))
 }
 
-/// Whether each name has the providers and users that the mode of its type asks for: a part of what makes a state typed.
-/// `docs/MACHINE.md`, "Typed states", has them.
+/// Whether each name has the providers and users that the mode of its type asks for: a part of what makes a state
+/// typed. `docs/MACHINE.md`, "Typed states", has them.
 pub fn are_names_owned(
     alloc: Global,
     accepted: &Accepted,

@@ -15,8 +15,9 @@ use nomos_types::accepted::Accepted;
 use std::alloc::{AllocError, Global};
 
 /// Whether the state is typed, where its processes have what the typing rules say at their instructions: whether names
-/// have types, providers and users, processes bases and payers, messages what they have to bring, and sections ends that
-/// go back. Sections are asked last, since names with one provider each lead to no more bases than there are names.
+/// have types, providers and users, processes bases and payers, messages what they have to bring, and sections ends
+/// that go back. Sections are asked last, since names with one provider each lead to no more bases than there are
+/// names.
 pub fn is_typed_if_placed(
     alloc: Global,
     accepted: &Accepted,

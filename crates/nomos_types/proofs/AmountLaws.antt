@@ -63,7 +63,8 @@ declared-is_amount_of lists p d small inside =
     let all = all-last (IsAmountOf lists) earlier later (amounts-are_of lists small) in
     let of_proc = all-within (IsAmountOf lists) proc_amounts lists.procs p d all inside in
     let own = (get_or lists.procs p d).amount in
-    all-last (IsAmountOf lists) (flat_map par_amounts (get_or lists.procs p d).values) (own ∷ []) of_proc 0 own (omega arith)
+    all-last (IsAmountOf lists) (flat_map par_amounts (get_or lists.procs p d).values) (own ∷ []) of_proc 0 own
+    (omega arith)
 
 -- those of an instruction
 pub code-is_amount_of : (lists : ProgramLists) (c : ℕ) (n : CodeNode) → AmountsAreSmall lists

@@ -258,7 +258,8 @@ equal-same lists x t is_program contractive inside = λ n. agree-same lists x n 
 -- ---- back and through
 
 -- agreement to a depth goes back
-pub agree-back : (lists : ProgramLists) (x : Annotations) (n : ℕ) (a b : TypeId) → Agree lists x n a b → Agree lists x n b a
+pub agree-back : (lists : ProgramLists) (x : Annotations) (n : ℕ) (a b : TypeId) → Agree lists x n a b
+    → Agree lists x n b a
 agree-back lists x zero a b agree = tt
 agree-back lists x (suc n) a b agree =
     record {

@@ -99,7 +99,8 @@ record LedBy (lists : ProgramLists) (at next : ℕ) : Type 0 where
   there : slice_get lists.code at ≡ Some node
   among : Contains (code_next node) next
 
-led-by : {lists : ProgramLists} {x : Annotations} {j k : Judgement} (after : List Judgement) → TypingRule lists x j after
+led-by : {lists : ProgramLists} {x : Annotations} {j k : Judgement} (after : List Judgement)
+    → TypingRule lists x j after
     → Contains after k → LedBy lists (place j) (place k)
 led-by {lists} {x} {j} {k} after row among =
     let (n, there, says) = row-at row in
@@ -157,7 +158,8 @@ module _ {lists : ProgramLists} (is_program : IsProgram lists) where
 
 module _ {lists : ProgramLists} {x : Annotations} (is_program : IsProgram lists) where
   -- a row goes on to one judgement at a place
-  same-next : {j k l : Judgement} (after : List Judgement) → TypingRule lists x j after → Contains after k → Contains after l
+  same-next : {j k l : Judgement} (after : List Judgement) → TypingRule lists x j after → Contains after k
+      → Contains after l
       → place k ≡ place l → k ≡ l
   same-next {j} {k} {l} after row among among_too same =
       let (n, there, says) = row-at row in
@@ -185,7 +187,8 @@ module _ {lists : ProgramLists} {x : Annotations} (is_program : IsProgram lists)
       in
       let before : i ≡ l = follows-unique p d declared begins follows follows_too
       (ap (λ (c : ℕ). let id : CodeId = record { 0 = c } in id) at_one) in
-      let row_there : TypingRule lists x i after_too = subst (λ (s : Judgement). TypingRule lists x s after_too) (sym before)
+      let row_there : TypingRule lists x i after_too = subst (λ (s : Judgement). TypingRule lists x s after_too)
+      (sym before)
       row_too in
       let lists_same : after_too ≡ after = row-unique x is_program row_there row in
       same-next after row among (subst (λ (s : List Judgement). Contains s k) lists_same among_too) places

@@ -73,7 +73,8 @@ RowAt lists x j (code.Match at w empty_next head tail full_next) after =
     head list.kind) (j.q + list.amount) ∷ [])
 
 -- a row says that of the node that stands there
-pub row-at : {lists : ProgramLists} {x : Annotations} {j : Judgement} {after : List Judgement} → TypingRule lists x j after
+pub row-at : {lists : ProgramLists} {x : Annotations} {j : Judgement} {after : List Judgement}
+    → TypingRule lists x j after
     → (n : CodeNode) × StandsAtCode lists j n × RowAt lists x j n after
 row-at (label stands t h) = (_, stands, (t, h, refl))
 row-at (case stands after h) = (_, stands, h)

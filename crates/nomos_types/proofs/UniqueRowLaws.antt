@@ -247,7 +247,8 @@ module _ {lists : ProgramLists} (x : Annotations) (is_program : IsProgram lists)
       ∙ sym f
 
   -- two rows at a judgement lead to the same judgements
-  pub row-unique : {j : Judgement} {after later : List Judgement} → TypingRule lists x j after → TypingRule lists x j later
+  pub row-unique : {j : Judgement} {after later : List Judgement} → TypingRule lists x j after
+      → TypingRule lists x j later
       → after ≡ later
   row-unique {j} left right =
       let (n, there, says) = row-at left in

@@ -31,4 +31,5 @@ HasSkeleton lists d = Derives lists no_amounts (start_of lists no_amounts d)
 -- ignored, and no rule applies to any that is alike.
 pub record IsStuck (lists : ProgramLists) (d : ProcDecl) (j : Judgement) : Type 0 where
   pub follows : Follows lists no_amounts (start_of lists no_amounts d) j
-  pub no_row : (k : Judgement) (after : List Judgement) → Alike lists no_amounts j k → ¬ (TypingRule lists no_amounts k after)
+  pub no_row : (k : Judgement) (after : List Judgement) → Alike lists no_amounts j k
+      → ¬ (TypingRule lists no_amounts k after)

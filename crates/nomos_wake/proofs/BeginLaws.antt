@@ -63,7 +63,8 @@ grown-twice {s} {t} {u} one two = record {
   names = omega (arith, one.names, two.names);
 }
 
-started-grown : (a : Acceptance) (s : State) (d : ProcDecl) (values : List (VarId × Value)) (channels : List (VarId × ℕ))
+started-grown : (a : Acceptance) (s : State) (d : ProcDecl) (values : List (VarId × Value))
+    (channels : List (VarId × ℕ))
     (payer : ℕ) → HasGrown s (started a s d values channels payer)
 started-grown a s d values channels payer = record {
   stays = λ o there. Contains-append_left s.objects (object.Process child ∷ []) o there;

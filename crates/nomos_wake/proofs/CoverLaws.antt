@@ -153,7 +153,8 @@ module _ (a : Acceptance) (t : State) where
       subst (λ (k : ℕ). WakesBy a t k v w) same wakes
   partner-wakes None n v w is wakes = absurd cc
 
-  heard-client : (heard : Option Incoming) (name q : ℕ) (w : Awake) → heard ≡ Some (record { to_client = true; name = name })
+  heard-client : (heard : Option Incoming) (name q : ℕ) (w : Awake)
+      → heard ≡ Some (record { to_client = true; name = name })
       → WakesHeard t heard w → owner t name ≡ Some q → MayBeReady w q
   heard-client (Some h) name q w is wakes owns =
       let way : h.to_client ≡ true = cc in
@@ -520,7 +521,8 @@ fired-covers {a} accepted {s} {t} typed_s typed_t pid f steps foreseen before u 
         let its : f.partner_waits ≡ Some name =
         foreseen.partner ∙ ap (λ (o : Option ℕ). o >>= waits a s.objects) (partner_is ∙ is) ∙ waiting
         in
-        if-some (λ n. (k : ℕ) → 0 < k → IsNoted z n k → HasProxy last n k) f.partner_waits name its offers_partner q over
+        if-some (λ n. (k : ℕ) → 0 < k → IsNoted z n k → HasProxy last n k) f.partner_waits name its offers_partner q
+        over
         (noted-back z last tells_last name q noted)
 
 -- A set that covers a state does so where a name is followed for which a ready process waits.

@@ -355,7 +355,8 @@ module _ (a : Acceptance) (s : State) (p : Process) (touch : Touch) where
       hears : (from : ℕ) → present_name p c ≡ Some from → IsHeard touch (is_own c) from
       hears from is =
           ap (λ (u : Touch). u.heard) is_touch
-          ∙ ap (λ (o : Option ℕ). option_map (λ n. let h : Incoming = record { to_client = is_own c; name = n } in h) o) is
+          ∙ ap (λ (o : Option ℕ). option_map (λ n. let h : Incoming = record { to_client = is_own c; name = n } in h) o)
+          is
 
   takes-told : (m : Message) (q : Process) → Contains s.objects (object.Message m) → IsTold (takes a s p m q)
   takes-told m q there = record {
@@ -449,7 +450,8 @@ module _ (a : Acceptance) (s : State) (p : Process) (touch : Touch) where
       hears : IsHeard touch false name
       hears =
           ap (λ (u : Touch). u.heard) is_touch
-          ∙ ap (λ (o : Option ℕ). option_map (λ n. let h : Incoming = record { to_client = false; name = n } in h) o) bound
+          ∙ ap (λ (o : Option ℕ). option_map (λ n. let h : Incoming = record { to_client = false; name = n } in h) o)
+          bound
 
       partner : (u : Object) → user_of s.objects p.offers ≡ Some u → touch.partner ≡ Some (object_number u)
       partner u found =

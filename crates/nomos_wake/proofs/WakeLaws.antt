@@ -1,4 +1,5 @@
--- The law of waking: where a state is the one before but for some changes, whoever is ready was ready before, or is woken
+-- The law of waking: where a state is the one before but for some changes, whoever is ready was ready before, or is
+-- woken
 -- by a change.
 use Rattle.std.proofs.Common.{◌≡◌, ◌∙◌, ◌⊎◌, inl, inr, ℕ, not, Bool, true, false, Contains, Option, Some, None, IsSome, slice_get, option_and_then, is_some, refl, sym, subst, ap}
 use Rattle.nomos_ir.specs.Bindings.{bound_to}
@@ -181,7 +182,8 @@ module _ {a : Acceptance} (accepted : IsAccepted a) {s t : State} (typed_s : IsT
             let has = (process-typed typed_t there).matches.offers in
             let at_l : other.mode ≡ mode.L = detaching-at_l accepted typed_t other there n stands detaches in
             let its_mode : HasMode a.program has.own mode.L =
-            subst (λ (m : Mode). HasMode a.program has.own m) at_l ((process-typed typed_t there).offered has.own has.found)
+            subst (λ (m : Mode). HasMode a.program has.own m) at_l
+            ((process-typed typed_t there).offered has.own has.found)
             in
             let uses : Contains (used (object.Process p)) other.offers =
             subst (Contains (used (object.Process p))) (sym offers) (bound-among p.channels v.0 name named)

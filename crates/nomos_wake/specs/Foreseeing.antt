@@ -7,7 +7,8 @@ use Rattle.nomos_deeds.specs.Readers.{waits}
 use Rattle.nomos_wake.specs.Touching.{touch_of}
 use Rattle.nomos_wake.specs.declared.waking.Foreseen.{Foreseen}
 
--- the process that fires, the number that the next object will have, what is touched, and the shared names for which the
+-- the process that fires, the number that the next object will have, what is touched, and the shared names for which
+-- the
 -- process and the other one that is touched wait
 pub record IsForeseen (a : Acceptance) (s : State) (pid : ℕ) (f : Foreseen) : Type 0 where
   pub fires : f.pid ≡ pid

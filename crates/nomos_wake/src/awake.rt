@@ -71,8 +71,8 @@ impl Awake {
         }
     }
 
-    /// A process is asleep, and waits for a shared name, if there is one. Where memory is wanting it is left as one that
-    /// may be ready.
+    /// A process is asleep, and waits for a shared name, if there is one. Where memory is wanting it is left as one
+    /// that may be ready.
     pub(crate) fn settle(&mut self, pid: u32, name: Option<u32>)
         ensures others { (q : ℕ) → q ≢ pid → MayBeReady self.old q → MayBeReady self.new q }
         ensures noted { (n q : ℕ) → IsNoted self.old n q → IsNoted self.new n q }

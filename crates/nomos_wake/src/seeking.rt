@@ -46,9 +46,9 @@ fn seek<M: Machine>(awake: &mut Awake, machine: &M, accepted: &Accepted, after: 
     None
 }
 
-/// The lowest ready process over a number, as the machine would find it. From the lowest of all on, and over the one that
-/// fired last where a call found it, it is found among those that may be ready; elsewhere the machine walks. Those that
-/// are found asleep are told to be.
+/// The lowest ready process over a number, as the machine would find it. From the lowest of all on, and over the one
+/// that fired last where a call found it, it is found among those that may be ready; elsewhere the machine walks. Those
+/// that are found asleep are told to be.
 pub fn next_ready<M: Machine>(
     awake: &mut Awake,
     machine: &M,

@@ -98,8 +98,8 @@ fn wake_partner<M: Machine>(
     }
 }
 
-// A process that is about to fire may acquire a contract: then all who wait for that are ready, and its name is followed
-// from now on.
+// A process that is about to fire may acquire a contract: then all who wait for that are ready, and its name is
+// followed from now on.
 fn follow_acquired<M: Machine>(
     awake: &mut Awake,
     machine: &M,

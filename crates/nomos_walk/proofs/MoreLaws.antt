@@ -120,7 +120,8 @@ ended-firings a batch v e = length-map v.firings (λ (f : Firing). f.pid)
 
 -- a batch whose lines are written and whose firings are counted has passed
 pub walk-finished : (before there after : WalkState) (batch : Batch) (v : WorldState) (e : End)
-    → there ≡ walk_writing (passage_of before.accepted batch v e) before → after ≡ walk_counting (length v.firings) there
+    → there ≡ walk_writing (passage_of before.accepted batch v e) before
+    → after ≡ walk_counting (length v.firings) there
     → after ≡ walk_with (passage_of before.accepted batch v e) before
 walk-finished before there after batch v e written counted =
     let p : Passage = passage_of before.accepted batch v e in

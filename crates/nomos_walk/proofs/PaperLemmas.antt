@@ -65,7 +65,8 @@ still-written a i n e before last papers after still none report text result =
 -- a batch that has come to a world
 pub batch-written : (a : Acceptance) (batch : Batch) (n : ℕ) (w : WorldState) (e : End) (last : LedgerState)
     (papers after : Papers) → WorldStandsFor a w → batch.line ≡ n
-    → after.report ≡ with_lines papers.report (end_lines a n (length w.firings) (ledger_begun a w).state.spent w.state e)
+    → after.report ≡ with_lines papers.report (end_lines a n (length w.firings) (ledger_begun a w).state.spent w.state
+    e)
     → after.text
     ≡ with_lines papers.text
     (lines_text a.annotations.unit (line.Line n ∷ (placed_lines a (pids_of w.firings) w.places ++ line.End e ∷ [])))

@@ -68,7 +68,8 @@ tells-accounts : {a : Acceptance} {first : LedgerState} {items : List ScriptItem
     {ps : List Passage} {last : LedgerState} → TellsFrom a first items (journal_of limit entries) ps last
     → length last.accounts ≤ length first.accounts + entry_count items
 tells-accounts {first = first} {last = last} tells =
-    subst (λ (items : List ScriptItem). length last.accounts ≤ length first.accounts + entry_count items) tells.items_are
+    subst (λ (items : List ScriptItem). length last.accounts ≤ length first.accounts + entry_count items)
+    tells.items_are
     (leads-accounts tells.leads)
 
 -- ---- fronts of a script

@@ -220,8 +220,8 @@ impl<'a> Walk<'a> {
         }
     }
 
-    /// Writes the lines of a batch that has been fired and ended so. The batch is only looked at, so that it is whole where
-    /// memory is wanting; its firings are not counted yet.
+    /// Writes the lines of a batch that has been fired and ended so. The batch is only looked at, so that it is whole
+    /// where memory is wanting; its firings are not counted yet.
     pub fn write<M: Undo>(&mut self, under: &BatchUnderWay<M>, end: &End) -> Result<(), AllocError>
         requires stands { WorldStandsFor self.old.accepted under.now.world }
         requires spent { under.now.outset.spent ≡ under.now.world.origin.state.spent }
@@ -232,8 +232,8 @@ impl<'a> Walk<'a> {
             .batch(self.arguments.accepted(), &under.world, under.outset, end)
     }
 
-    /// Writes the lines of a batch that has been fired and ended so, and gives its entry. The batch is only looked at, so
-    /// that it is whole where memory is wanting; its firings are not counted yet.
+    /// Writes the lines of a batch that has been fired and ended so, and gives its entry. The batch is only looked at,
+    /// so that it is whole where memory is wanting; its firings are not counted yet.
     pub fn written<M: Undo>(
         &mut self,
         alloc: Global,
@@ -255,8 +255,8 @@ impl<'a> Walk<'a> {
         })
     }
 
-    /// The ledger that a batch leaves which has been fired and ended so: it stays, or is undone. Its firings are counted.
-    /// It takes no memory.
+    /// The ledger that a batch leaves which has been fired and ended so: it stays, or is undone. Its firings are
+    /// counted. It takes no memory.
     pub fn settle<M: Undo>(&mut self, under: BatchUnderWay<M>, end: &End) -> Ledger<M>
         requires few { self.old.made + length under.world.firings < 2 ^ 32 }
         ensures ledger { result ≡ left_by end.now under.world }
@@ -275,8 +275,8 @@ impl<'a> Walk<'a> {
         leave(world, end)
     }
 
-    /// Finishes a batch that has been fired and ended so: its lines are written, its firings are counted, and it stays or
-    /// is undone.
+    /// Finishes a batch that has been fired and ended so: its lines are written, its firings are counted, and it stays
+    /// or is undone.
     pub fn finish<M: Undo + Drop>(
         &mut self,
         alloc: Global,

@@ -182,8 +182,8 @@ impl<M: Undo> Watched<M> {
         }
     }
 
-    /// How the batch ends here that may make so many firings, faults apart, or none where it goes on. Want of memory costs
-    /// speed alone.
+    /// How the batch ends here that may make so many firings, faults apart, or none where it goes on. Want of memory
+    /// costs speed alone.
     pub fn end(&mut self, accepted: &Accepted, limit: u32) -> Option<End>
         requires stands { WorldStandsFor accepted.now self.old.world }
         requires watched { IsWatched accepted.now self.old.world.state self.old.awake }

@@ -16,7 +16,8 @@ pub data Task : Type 0 where
   bench : (seed bidders : ℕ) → Task
   -- the least bounds of the contract in this file are sought
   least : (file : List ℕ) → Task
-  -- the script in the second file is run on the contract in the first, with its single lines in an order in which so many
+  -- the script in the second file is run on the contract in the first, with its single lines in an order in which so
+  -- many
   -- threads submit them
   pool : (file script : List ℕ) (threads : ℕ) → Task
   -- the script in the second file is run on the contract in the first, and behind it a party from outside, for whom the

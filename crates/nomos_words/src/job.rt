@@ -43,8 +43,8 @@ pub enum Job<'a> {
     Least {
         file: &'a str,
     },
-    /// The script in the second file is to be run on the contract in the first, with its single lines in an order in which
-    /// so many threads, from 1 to 8, submit them.
+    /// The script in the second file is to be run on the contract in the first, with its single lines in an order in
+    /// which so many threads, from 1 to 8, submit them.
     Pool {
         file: &'a str,
         script: &'a str,
@@ -60,13 +60,15 @@ pub enum Job<'a> {
         proc: &'a str,
         text: &'a str,
     },
-    /// The script in the second file is to be run on the contract in the first, and the ledger is to be saved in the third.
+    /// The script in the second file is to be run on the contract in the first, and the ledger is to be saved in the
+    /// third.
     Save {
         file: &'a str,
         script: &'a str,
         snapshot: &'a str,
     },
-    /// The script in the third file is to be run on the contract in the first, from the ledger that is saved in the second.
+    /// The script in the third file is to be run on the contract in the first, from the ledger that is saved in the
+    /// second.
     Resume {
         file: &'a str,
         snapshot: &'a str,
@@ -75,8 +77,8 @@ pub enum Job<'a> {
 }
 
 /// The words that name files: those of the contract and of the script that are read; that of the third text, which is a
-/// journal, a snapshot or what is said in a talk; and the one in which the journal of a run, or a snapshot, is kept; each
-/// where there is one.
+/// journal, a snapshot or what is said in a talk; and the one in which the journal of a run, or a snapshot, is kept;
+/// each where there is one.
 #[derive(Clone, Copy, Debug)]
 pub struct Files<'a> {
     pub contract: Option<&'a str>,

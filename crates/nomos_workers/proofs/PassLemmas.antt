@@ -13,7 +13,8 @@ use Rattle.nomos_workers.specs.Crews.{IsOfWorker}
 -- ---- numbers of which nothing is kept
 
 -- a number outside of a row of numbers is none of them
-outside-range : (n from count : ℕ) → ¬ ((from ≤ n) × (n < from + count)) → All (λ (m : ℕ). m ≢ n) (range_with_len from count)
+outside-range : (n from count : ℕ) → ¬ ((from ≤ n) × (n < from + count))
+    → All (λ (m : ℕ). m ≢ n) (range_with_len from count)
 outside-range n from zero out = All-nil (λ (m : ℕ). m ≢ n)
 outside-range n from (suc count) out =
     All-cons (λ (m : ℕ). m ≢ n) from (range_with_len (from + 1) count)
@@ -84,6 +85,7 @@ module _ (workers : ℕ) where
       (workers-fired firings (others-fired f history none))
 
 -- where there is no entry nobody fired
-pub unfired : (firings : List Firing) → map {B = ℕ × ℕ} (λ (f : Firing). (f.pass, f.pid)) firings ≡ [] → length firings ≡ 0
+pub unfired : (firings : List Firing) → map {B = ℕ × ℕ} (λ (f : Firing). (f.pass, f.pid)) firings ≡ []
+    → length firings ≡ 0
 unfired [] none = refl
 unfired (f ∷ firings) none = absurd cc

@@ -49,10 +49,10 @@ fn end_of<M: Undo>(
 }
 
 /// Runs a batch to its end, which may make so many firings (docs/MACHINE.md, "Workers"). One worker fires as its policy
-/// says, and calls no gate; several take turns over a floor, each in a thread of its own, and nothing says when they get
-/// their turns. Where the batch is at its end already no thread is made. The world comes back whatever the end, and also
-/// where memory was wanting. Under `cost all` the firings, a unit for each, come to at most twice the gas spent since the
-/// ledger before the batch, and a unit for each process of that ledger.
+/// says, and calls no gate; several take turns over a floor, each in a thread of its own, and nothing says when they
+/// get their turns. Where the batch is at its end already no thread is made. The world comes back whatever the end, and
+/// also where memory was wanting. Under `cost all` the firings, a unit for each, come to at most twice the gas spent
+/// since the ledger before the batch, and a unit for each process of that ledger.
 pub fn run_batch<M: Undo + Drop + Send, G: Gate, R: Threads + Wait + Sync>(
     rt: &R,
     alloc: Global,

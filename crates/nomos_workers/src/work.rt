@@ -46,8 +46,8 @@ pub(crate) enum Onward {
     Ends(BatchEnd),
 }
 
-// Fires in a turn until a look finds an end, a process is to be evaluated first, memory is wanting, or enough looks were
-// made. Each firing is counted before the next look, but for that of the last look.
+// Fires in a turn until a look finds an end, a process is to be evaluated first, memory is wanting, or enough looks
+// were made. Each firing is counted before the next look, but for that of the last look.
 fn carry_on<A: Lent, M: Undo + Drop>(
     alloc: Global,
     floor: &Floor<Shop<A, M>>,
@@ -140,11 +140,11 @@ fn after_turn<A: Lent, G: Gate>(
     }
 }
 
-/// One worker's part (docs/MACHINE.md, "Workers"): it takes turns with its pass, and fires ready processes, 256 in a turn
-/// at most, until it finds an end or memory is wanting. It starts to look for its next process where it fired last, and
-/// at its own number before that. Terms are evaluated after the turn was given back and the gate was called; in its next
-/// turn the worker first fires the first process that is ready from there on, and uses the outcome only where that
-/// process stands at this instruction with these values. Nothing says when the turns come.
+/// One worker's part (docs/MACHINE.md, "Workers"): it takes turns with its pass, and fires ready processes, 256 in a
+/// turn at most, until it finds an end or memory is wanting. It starts to look for its next process where it fired
+/// last, and at its own number before that. Terms are evaluated after the turn was given back and the gate was called;
+/// in its next turn the worker first fires the first process that is ready from there on, and uses the outcome only
+/// where that process stands at this instruction with these values. Nothing says when the turns come.
 pub fn work<A: Lent, M: Undo + Drop, G: Gate, R: Wait>(
     rt: &R,
     alloc: Global,

@@ -78,7 +78,8 @@ pub record IsSpread (lists : ProgramLists) (u v : TypeId) (pairs : List (TypeId 
   pub parts : (h : Hop) → Follows lists (visit_at u v) h (Among pairs)
   pub paid : NotesPaid lists u v amounts
 
--- all that follows from two types is gathered: each pair was there or is spread, each amount was there or stands at equal
+-- all that follows from two types is gathered: each pair was there or is spread, each amount was there or stands at
+-- equal
 -- paths
 pub record HasGathered (lists : ProgramLists) (a b : TypeId) (old new : Known) : Type 0 where
   pub met : IsMet lists (Among new.pairs) a b

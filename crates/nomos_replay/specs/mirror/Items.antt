@@ -57,7 +57,8 @@ pub record ToldUpTo (a : Acceptance) (v : Version) (first : LedgerState) (limit 
         (before v (told_of limit passages l) left)
 
 -- This was told, and is given with what was written of it.
-pub record IsWholeTold {M : Type 0} (a : Acceptance) (wanted : WantedTexts) (told : Told) (whole : ToldText M) : Type 0 where
+pub record IsWholeTold {M : Type 0} (a : Acceptance) (wanted : WantedTexts) (told : Told) (whole : ToldText M) : Type
+    0 where
   pub journal : whole.journal ≡ journal_told told
   pub ledger : whole.ledger ≡ told.ledger
   pub papers : whole.papers ≡ papers_of a told.limit wanted told.passages

@@ -51,4 +51,5 @@ HasEnded from answer =
 -- What was read of a text leads to where the reading stands: what is told of what is left is told of the text.
 pub record HasRead (a : Acceptance) (text left : List ℕ) (at : ℕ) (stand : TextStand) : Type 0 where
   pub kept : IsStandKept stand
-  pub tells : (answer : Result LedgerState ℕ) → Reads a at (stand_told stand) left answer → Reads a 1 at_head text answer
+  pub tells : (answer : Result LedgerState ℕ) → Reads a at (stand_told stand) left answer
+      → Reads a 1 at_head text answer

@@ -13,7 +13,8 @@ returns-clause-standings c = λ d found.
     let lists = c.args.program.now in
     let wanted = c.args.wanted.now in
     let same = c.in_ok-gather.ensures.wanted ∙ c.new-walk.ensures.wanted in
-    subst (λ (l : List Standing). AreWanted lists (star_count lists) (outset_of lists d) wanted l) (sym c.of_vec.ensures)
+    subst (λ (l : List Standing). AreWanted lists (star_count lists) (outset_of lists d) wanted l)
+    (sym c.of_vec.ensures)
     (kept-wanted c.gather.new.walk wanted same (c.in_ok-gather.ensures.gathers d found))
 
 pub returns-clause-potentials : goal.returns-clause-potentials

@@ -18,9 +18,11 @@ pub returns-in-Some-unfolded : goal.returns-in-Some-unfolded
 returns-in-Some-unfolded g c =
     way-found c.args.accepted.now c.program-program.ensures.accepted (g.S.Sight.state c.args.sight.now).types
     c.args.name c.args.said.now c.in-Some.t c.in-Some-unfolded.node.now c.way_at.result
-    (sym c.type_of.ensures ∙ c.in-Some.is) (at-program c.in-Some.t.0 c.program-program.ensures.program (sym c.in-Some-unfolded.ensures)) c.way_at.ensures
+    (sym c.type_of.ensures ∙ c.in-Some.is) (at-program c.in-Some.t.0 c.program-program.ensures.program
+    (sym c.in-Some-unfolded.ensures)) c.way_at.ensures
 
 pub returns-in-None : goal.returns-in-None
 returns-in-None g c =
     way-none c.args.accepted.now c.program-program.ensures.accepted (g.S.Sight.state c.args.sight.now).types
-    c.args.name c.args.said.now c.in-Some.t (sym c.type_of.ensures ∙ c.in-Some.is) (at-program c.in-Some.t.0 c.program-program.ensures.program (sym c.in-None.ensures))
+    c.args.name c.args.said.now c.in-Some.t (sym c.type_of.ensures ∙ c.in-Some.is)
+    (at-program c.in-Some.t.0 c.program-program.ensures.program (sym c.in-None.ensures))

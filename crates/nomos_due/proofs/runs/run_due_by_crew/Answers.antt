@@ -18,7 +18,8 @@ returns-in-Ok-clause-err g c =
     (g.S.Source.faults c.read_script.new.script) in
     let f = c.in-Ok.ensures in
     if_err-map c.ran_due_by_crew.result _ _
-    (λ journal part. part-run c.args.accepted.now c.args.runner.now.orders script f.0 c.in-Ok.script journal f.1 f.2 part)
+    (λ journal part. part-run c.args.accepted.now c.args.runner.now.orders script f.0 c.in-Ok.script journal f.1 f.2
+    part)
     c.ran_due_by_crew.ensures.err
 
 pub returns-in-Err-clause-ok : goal.returns-in-Err-clause-ok

@@ -10,12 +10,14 @@ returns-in-Numbers c =
 
 pub returns-in-PutBefore : goal.returns-in-PutBefore
 returns-in-PutBefore c =
-    for-act c.args.lists.now c.args.act (act.PutBefore) c.args.evaluator.now c.put_before.new.evaluator c.put_before.result
+    for-act c.args.lists.now c.args.act (act.PutBefore) c.args.evaluator.now c.put_before.new.evaluator
+    c.put_before.result
     c.in-PutBefore.is c.put_before.ensures
 
 pub returns-in-Both : goal.returns-in-Both
 returns-in-Both c =
-    for-act c.args.lists.now c.args.act (act.Both c.in-Both.scope c.in-Both.right) c.args.evaluator.now c.both.new.evaluator
+    for-act c.args.lists.now c.args.act (act.Both c.in-Both.scope c.in-Both.right) c.args.evaluator.now
+    c.both.new.evaluator
     c.both.result c.in-Both.is c.both.ensures
 
 pub returns-in-Either : goal.returns-in-Either
@@ -25,7 +27,8 @@ returns-in-Either c =
 
 pub returns-in-Truth : goal.returns-in-Truth
 returns-in-Truth c =
-    for-act c.args.lists.now c.args.act (act.Truth) c.args.evaluator.now c.truth.new.evaluator c.truth.result c.in-Truth.is
+    for-act c.args.lists.now c.args.act (act.Truth) c.args.evaluator.now c.truth.new.evaluator c.truth.result
+    c.in-Truth.is
     c.truth.ensures
 
 pub returns-in-Not : goal.returns-in-Not
@@ -40,5 +43,6 @@ returns-in-Choose c =
 
 pub returns-in-Open : goal.returns-in-Open
 returns-in-Open c =
-    for-act c.args.lists.now c.args.act (act.Open c.in-Open.scope c.in-Open.cases) c.args.evaluator.now c.open.new.evaluator
+    for-act c.args.lists.now c.args.act (act.Open c.in-Open.scope c.in-Open.cases) c.args.evaluator.now
+    c.open.new.evaluator
     c.open.result c.in-Open.is c.open.ensures

@@ -18,7 +18,8 @@ loop-form-preserved c =
     let before = rows_in c.args.groups.now.items in
     let added = ap rows_in c.in_ok-push.ensures.items ∙ rows-push groups c.in_ok-group_of.field-0
     ∙ ap (λ rows. rows_in groups ++ rows) c.in_ok-group_of.ensures in
-    let more = ap (map form_row) (take_more forms i own c.loop-form-test.true) ∙ map-append form_row (take i forms) (get_or forms i own ∷ []) in
+    let more = ap (map form_row) (take_more forms i own c.loop-form-test.true) ∙ map-append form_row (take i forms)
+    (get_or forms i own ∷ []) in
     let is = c.in_ok-row_of.ensures.row ∙ ap form_row c.form-item.is in
     record {
       rows = added ∙ (λ p. c.loop-form.invariant.rows p ++ is p ∷ [])

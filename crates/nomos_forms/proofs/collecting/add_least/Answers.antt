@@ -24,7 +24,8 @@ returns c =
     let coefs = same ∙ sym (get_or-map (λ (g : RowGroup). g.coefs) groups place own [] below) in
     let more : RowGroup = record { coefs = own.coefs; leasts = c.push.new.self } in
     let new = rows_in (set groups place more) in
-    let all = same-moved (row_of own.coefs least ∷ rows_in groups) new (rows-more groups place more own (least ∷ []) below same
+    let all = same-moved (row_of own.coefs least ∷ rows_in groups) new
+    (rows-more groups place more own (least ∷ []) below same
     (item ∙ ap (λ (g : RowGroup). g.leasts.items ++ least ∷ []) value)) in
     record {
       coefs = map-set_same (λ (g : RowGroup). g.coefs) groups place more own same;

@@ -13,7 +13,8 @@ returns-clause-rows c =
     let mid = rows_in c.add_difference.new.groups.items in
     let first = difference_row stars pair.0 pair.1 in
     let second = difference_row stars pair.1 pair.0 in
-    same-trans (rows_in c.add_difference-2.new.groups.items) (first ∷ mid) (old ++ pair_rows stars pair) c.in_ok-add_difference-2.ensures.rows
+    same-trans (rows_in c.add_difference-2.new.groups.items) (first ∷ mid) (old ++ pair_rows stars pair)
+    c.in_ok-add_difference-2.ensures.rows
     (same-trans (first ∷ mid) (first ∷ second ∷ old) (old ++ pair_rows stars pair)
     (same-behind (first ∷ []) mid (second ∷ old) c.in_ok-add_difference.ensures.rows)
     (same-swapped (pair_rows stars pair) old))

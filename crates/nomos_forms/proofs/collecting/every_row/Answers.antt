@@ -13,6 +13,8 @@ returns-clause-rows c =
     let pairs = flat_map (pair_rows c.args.stars) c.args.pairs.now in
     let old = rows_in c.in_ok-groups.groups.items in
     let added = c.in_ok-add_forms.ensures.rows ∙ ap (λ fs. old ++ map form_row fs) c.as_slice-2.ensures in
-    let same = subst (λ ps. HasSame old (flat_map (pair_rows c.args.stars) ps)) c.as_slice.ensures c.in_ok-groups.ensures.rows in
-    subst (λ rows. HasSame rows (forms ++ pairs)) (sym added) (same-trans (old ++ forms) (pairs ++ forms) (forms ++ pairs)
+    let same = subst (λ ps. HasSame old (flat_map (pair_rows c.args.stars) ps)) c.as_slice.ensures
+    c.in_ok-groups.ensures.rows in
+    subst (λ rows. HasSame rows (forms ++ pairs)) (sym added)
+    (same-trans (old ++ forms) (pairs ++ forms) (forms ++ pairs)
     (same-front forms old pairs same) (same-swapped pairs forms))

@@ -25,7 +25,8 @@ loop-pair-preserved c =
     ∙ flat_map-append f (take i pairs) (item ∷ []) ∙ ap (λ rows. before ++ rows) (append-nil (f item)) in
     record {
       counted = c.in_ok-add_pair.ensures.groups;
-      rows = subst (HasSame new) (sym more) (same-trans new (old ++ f item) (before ++ f item) c.in_ok-add_pair.ensures.rows
+      rows = subst (HasSame new) (sym more) (same-trans new (old ++ f item) (before ++ f item)
+          c.in_ok-add_pair.ensures.rows
           (same-front (f item) old before c.loop-pair.invariant.rows));
     }
 

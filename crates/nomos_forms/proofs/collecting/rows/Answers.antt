@@ -15,5 +15,6 @@ pub returns-clause-rows : goal.returns-clause-rows
 returns-clause-rows c = record {
   ascend = c.in_ok-in_order.ensures.ascend;
   same = same-trans c.in_ok-in_order.field-0 (rows_in c.in_ok-groups.groups.items)
-      (all_rows c.args.stars c.args.forms.now c.args.pairs.now) c.in_ok-in_order.ensures.same c.in_ok-groups.ensures.rows;
+      (all_rows c.args.stars c.args.forms.now c.args.pairs.now) c.in_ok-in_order.ensures.same
+      c.in_ok-groups.ensures.rows;
 }

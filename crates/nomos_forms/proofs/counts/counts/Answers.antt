@@ -11,6 +11,7 @@ loop-before-preserved c =
     let before = c.loop-before.before in
     let count = c.count_between in
     let fits : FitsSigned w64 count.result = search rules in
-    ◌∙◌ {A = List ℤ} c.in_ok-push.ensures.items (◌∙◌ {A = List ℤ} (λ p. c.loop-before.invariant p ++ (to_z-of_z w64 count.result fits ∙ count.ensures) p ∷ [])
+    ◌∙◌ {A = List ℤ} c.in_ok-push.ensures.items
+    (◌∙◌ {A = List ℤ} (λ p. c.loop-before.invariant p ++ (to_z-of_z w64 count.result fits ∙ count.ensures) p ∷ [])
     (sym (map-range_with_len_more (λ star. count_in c.args.more star -ℤ count_in c.args.less star) 1 before (before + 1)
     (omega arith))))

@@ -56,7 +56,8 @@ returns c =
     let value = to_z-of_z w128 c.weigh-sum.result fits ∙ c.weigh-sum.ensures.value
     ∙ (λ p. dot (c.as_slice.ensures p) (c.as_slice-2.ensures p)) in
     let own = c.deref.ensures.value in (
-      λ e. all-rows M group (subst (Each _) own (subst (λ sum. Each sum c.deref.result.now) value (c.reaches_each.ensures.0 e))),
+      λ e. all-rows M group
+          (subst (Each _) own (subst (λ sum. Each sum c.deref.result.now) value (c.reaches_each.ensures.0 e))),
       λ all. c.reaches_each.ensures.1 (subst (λ sum. Each sum c.deref.result.now) (sym value)
           (subst (Each _) (sym own) (all-leasts M group all))),
     )

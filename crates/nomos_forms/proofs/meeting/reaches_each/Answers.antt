@@ -13,11 +13,13 @@ loop-least-preserved c =
     let fits : FitsSigned w128 c.args.sum = search rules in
     let same = to_z-of_z w128 c.args.sum fits in
     let small = c.requires i (pos 0) c.loop-least-test.true in
-    let least = to_z-of_z w64 (get_or ls i (pos 0)) (fits_signed_from_abs w64 (get_or ls i (pos 0)) (omega (arith, small))) in
+    let least = to_z-of_z w64 (get_or ls i (pos 0))
+    (fits_signed_from_abs w64 (get_or ls i (pos 0)) (omega (arith, small))) in
     subst (λ sum. All (Reached sum) (take (i + 1) ls)) (sym same)
     (All-more (Reached c.args.sum) ls i (pos 0) c.loop-least-test.true
     (subst (λ sum. All (Reached sum) (take i ls)) same c.loop-least.invariant)
-    (subst (λ sum. Reached sum (get_or ls i (pos 0))) same (subst (Reached _) least (c.reaches.ensures.0 c.if-not-reaches.false))))
+    (subst (λ sum. Reached sum (get_or ls i (pos 0))) same
+    (subst (Reached _) least (c.reaches.ensures.0 c.if-not-reaches.false))))
 
 pub returns : goal.returns
 returns c =

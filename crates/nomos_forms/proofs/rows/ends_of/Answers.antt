@@ -16,9 +16,11 @@ loop-group-preserved c =
     let before = take k groups in
     let more = take_more groups k own c.loop-group-test.true in
     let long = ap (λ (g : RowGroup). length g.leasts.items) c.group-item.is in
-    let count = ap (λ gs. length (rows_in gs)) more ∙ ap length (rows-push before g) ∙ length-append (rows_in before) (group_rows g)
+    let count = ap (λ gs. length (rows_in gs)) more ∙ ap length (rows-push before g)
+    ∙ length-append (rows_in before) (group_rows g)
     ∙ ap (λ n. length (rows_in before) + n) (length-map g.leasts.items _) in
-    let now : c.in_ok-end.end ≡ 0 + length (rows_in before) + length g.leasts.items = omega (arith, c.in_ok-end.ensures, long, c.loop-group.invariant.end) in
+    let now : c.in_ok-end.end ≡ 0 + length (rows_in before) + length g.leasts.items =
+    omega (arith, c.in_ok-end.ensures, long, c.loop-group.invariant.end) in
     record {
       ends = c.in_ok-push.ensures.items ∙ (λ p. c.loop-group.invariant.ends p ++ now p ∷ [])
           ∙ sym (ap (ends_after 0) more ∙ ends-more 0 before g);

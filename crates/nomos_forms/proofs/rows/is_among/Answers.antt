@@ -20,9 +20,11 @@ loop-group-preserved c = λ h.
     let k = c.loop-group.group-index in
     let item = c.group-item.result in
     let row = c.args.row.now in
-    let more = ap rows_in (take_more groups k item c.loop-group-test.true) ∙ rows-push (take k groups) (get_or groups k item) in
+    let more = ap rows_in (take_more groups k item c.loop-group-test.true)
+    ∙ rows-push (take k groups) (get_or groups k item) in
     ⊎_elim c.loop-group.invariant
-    (λ own. false≢true (sym c.if-is_in.false ∙ c.is_in.ensures.1 (subst (λ g. Contains (group_rows g) row) (sym c.group-item.is) own)))
+    (λ own. false≢true (sym c.if-is_in.false ∙ c.is_in.ensures.1
+    (subst (λ g. Contains (group_rows g) row) (sym c.group-item.is) own)))
     (Contains-append_cases (rows_in (take k groups)) (group_rows (get_or groups k item)) row
     (subst (λ rows. Contains rows row) more h))
 

@@ -23,7 +23,14 @@ overflow_sub-result c =
     let own = c.in_ok-leasts.field-0.now in
     let at = c.groups_before-group.ensures c.args.groups.now c.requires in
     let long = ap (λ (g : RowGroup). length g.leasts.items) found.1 in
-    omega (arith, at.start, end-of c.args.ends.now c.args.groups.now k own c.requires found.3.0, long, c.len.ensures, own.leasts.ok.0)
+    omega (
+      arith,
+      at.start,
+      end-of c.args.ends.now c.args.groups.now k own c.requires found.3.0,
+      long,
+      c.len.ensures,
+      own.leasts.ok.0,
+    )
 
 pub returns : goal.returns
 returns c =
@@ -36,6 +43,8 @@ returns c =
           let end = end-of c.args.ends.now c.args.groups.now k group c.requires found.3.0 in
           let over = at.end group found.3.0 in
           let long = ap (λ (g : RowGroup). length g.leasts.items) (found.3.1 group) in
-          let len = c.len.ensures in
-          (omega (arith, at.start, end, over, long, len, own.leasts.ok.0), omega (arith, at.start, end, over, long, len, own.leasts.ok.0)),
+          let len = c.len.ensures in (
+            omega (arith, at.start, end, over, long, len, own.leasts.ok.0),
+            omega (arith, at.start, end, over, long, len, own.leasts.ok.0),
+          ),
     )

@@ -22,7 +22,8 @@ returns-then-is_empty c =
     let none = no-leasts group.leasts c.if-is_empty.ensures in
     record {
       ascend = c.requires.ascend;
-      same = subst (HasSame (rows_in old)) (sym (append-nil (rows_in old)) ∙ ap (λ ls. rows_in old ++ map (row_of group.coefs) ls)
+      same = subst (HasSame (rows_in old)) (sym (append-nil (rows_in old))
+          ∙ ap (λ ls. rows_in old ++ map (row_of group.coefs) ls)
           (sym none)) (λ row. ((λ h. h), (λ h. h)));
     }
   where

@@ -34,10 +34,13 @@ add_sorted-requires-clause-behind c = λ row other i j.
     let all = sym start.ensures.into_iter_gives.0
     ∙ taken-front start.result front c.loop-group.group-iterator c.loop-group.yielded_by
     ∙ ap (λ gs. front ++ gs) c.in-Some.ensures.steps.0 in
-    let sorted = subst (IsStrictlySortedBy R) (ap coefs_of all ∙ map-append (λ (g : RowGroup). g.coefs) front (item ∷ rest)) c.requires in
+    let sorted = subst (IsStrictlySortedBy R) (ap coefs_of all ∙ map-append (λ (g : RowGroup). g.coefs) front
+    (item ∷ rest)) c.requires in
     let P : List _ → Type 0 = λ coefs. R coefs item.coefs ≡ Less in
-    let before = All-from_recursion P (coefs_of front) (strict-front R (coefs_of front) item.coefs (coefs_of rest) sorted) in
-    let less = All-contains P (coefs_of front) row.coefs before (coefs-in front row ((c.loop-group.invariant.same row).0 i)) in
+    let before = All-from_recursion P (coefs_of front)
+    (strict-front R (coefs_of front) item.coefs (coefs_of rest) sorted) in
+    let less = All-contains P (coefs_of front) row.coefs before
+    (coefs-in front row ((c.loop-group.invariant.same row).0 i)) in
     less-coefs row other (subst (λ coefs. R row.coefs coefs ≡ Less) ((in-group item other).0 j).0 less)
 
 pub loop-group-preserved : goal.loop-group-preserved
@@ -45,7 +48,8 @@ loop-group-preserved c =
     let front = c.loop-group.yielded in
     let item = c.in-Some.group in
     let made = c.in_ok-add_sorted.ensures in
-    let more = same-front (group_rows item) (rows_in c.loop-group.made.items) (rows_in front) c.loop-group.invariant.same in
+    let more = same-front (group_rows item) (rows_in c.loop-group.made.items) (rows_in front)
+    c.loop-group.invariant.same in
     record {
       ascend = made.ascend;
       same = subst (HasSame _) (sym (rows-push front item)) (λ row. (
@@ -57,6 +61,7 @@ loop-group-preserved c =
 pub returns-clause-same : goal.returns-clause-same
 returns-clause-same c =
     let start = c.into_iter-group-iterator in
-    let all = all-taken start.result c.loop-group.yielded c.loop-group.group-iterator c.loop-group.yielded_by c.in-None.ensures.steps.0
+    let all = all-taken start.result c.loop-group.yielded c.loop-group.group-iterator c.loop-group.yielded_by
+    c.in-None.ensures.steps.0
     ∙ start.ensures.into_iter_gives.0 in
     subst (λ gs. HasSame (rows_in c.loop-group.made.items) (rows_in gs)) all c.loop-group.invariant.same

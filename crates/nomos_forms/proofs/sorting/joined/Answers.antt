@@ -17,7 +17,8 @@ loop-group-init c =
     let none = c.new-made.ensures.items in
     record {
       rows = ap rows_in none;
-      ascend = subst (λ gs. IsStrictlySortedBy (slice_cmp int_cmp) (coefs_of gs)) (sym none) (strict-none (slice_cmp int_cmp));
+      ascend = subst (λ gs. IsStrictlySortedBy (slice_cmp int_cmp) (coefs_of gs)) (sym none)
+          (strict-none (slice_cmp int_cmp));
       last = ap (λ gs. last_of (coefs_of gs)) none;
     }
 

@@ -14,5 +14,6 @@ returns-clause-same c = same-permuted _ _ c.sort_unstable_by.ensures.permutation
 
 pub returns-clause-ascend : goal.returns-clause-ascend
 returns-clause-ascend c = sorted-keys (slice_cmp int_cmp) (λ (g : RowGroup). g.coefs) _
-    (c.sort_unstable_by.ensures.sorted (λ x y. is_lt (slice_cmp int_cmp x.coefs y.coefs)) (ranks_by coefs_total (λ g. g.coefs))
+    (c.sort_unstable_by.ensures.sorted (λ x y. is_lt (slice_cmp int_cmp x.coefs y.coefs))
+    (ranks_by coefs_total (λ g. g.coefs))
     (always_returns_same _ _ _ (λ a r f called. search rules)))

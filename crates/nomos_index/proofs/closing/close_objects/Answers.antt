@@ -14,7 +14,8 @@ pub close_rows-requires-2-clause-long : goal.close_rows-requires-2-clause-long
 close_rows-requires-2-clause-long c = c.requires.holding.list_rows
 
 pub close_rows-requires-2-clause-late : goal.close_rows-requires-2-clause-late
-close_rows-requires-2-clause-late c = beside-late _ _ c.late_from-from.result c.requires.its_lists c.late_from-from.ensures
+close_rows-requires-2-clause-late c = beside-late _ _ c.late_from-from.result c.requires.its_lists
+    c.late_from-from.ensures
 
 pub returns-clause-holding : goal.returns-clause-holding
 returns-clause-holding c =

@@ -8,7 +8,8 @@ returns-in_ok-push c =
     let cells = c.args.contents.now.channels.now in
     let v = c.args.variable in
     subst (AreChannelsBelow cells c.args.pid (v + 1)) (sym c.in_ok-push.ensures.items)
-    (channels-more cells c.args.pid v c.args.made.now.items c.requires c.in-Some.name (sym c.get.ensures ∙ c.in-Some.is))
+    (channels-more cells c.args.pid v c.args.made.now.items c.requires c.in-Some.name
+    (sym c.get.ensures ∙ c.in-Some.is))
 
 pub returns-in_default : goal.returns-in_default
 returns-in_default c =

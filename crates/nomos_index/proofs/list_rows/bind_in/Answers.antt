@@ -16,7 +16,8 @@ exchange-requires-clause-at c =
     let row : ListRow = slice_index_or c.args.lists.now.now c.args.place [] in
     let n = c.count_along-at.result in
     let bound : IsBoundAt c.in-Some.v row n =
-    subst (λ (r : ListRow). IsBoundAt c.in-Some.v r n) c.row-2.ensures (c.is_bound_at.ensures.0 c.if-is_bound_at.true) in
+    subst (λ (r : ListRow). IsBoundAt c.in-Some.v r n) c.row-2.ensures
+    (c.is_bound_at.ensures.0 c.if-is_bound_at.true) in
     let (e, read, same) = bound in
     slice_get_within row n e read
 

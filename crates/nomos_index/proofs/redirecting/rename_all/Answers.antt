@@ -17,7 +17,13 @@ pub put-requires-clause-within : goal.put-requires-clause-within
 put-requires-clause-within c =
     let inv = c.loop-at.invariant in
     let f = renamed c.args.old c.args.new in
-    omega (arith, ap length inv.now, length-changed f c.loop-at.at c.args.names.now.now, c.len-at-end.ensures, c.loop-at-test.true)
+    omega (
+      arith,
+      ap length inv.now,
+      length-changed f c.loop-at.at c.args.names.now.now,
+      c.len-at-end.ensures,
+      c.loop-at-test.true,
+    )
 
 pub loop-at-preserved : goal.loop-at-preserved
 loop-at-preserved c =

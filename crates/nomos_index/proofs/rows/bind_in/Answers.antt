@@ -16,7 +16,8 @@ returns-then-is_bound_at-clause-ok c =
     let row : ValueRow = slice_index_or rows c.args.place [] in
     let n = c.count_below-at.result in
     let bound : IsBoundAt c.args.pair.0 row n =
-    subst (λ (r : ValueRow). IsBoundAt c.args.pair.0 r n) c.row-2.ensures (c.is_bound_at.ensures.0 c.if-is_bound_at.true) in
+    subst (λ (r : ValueRow). IsBoundAt c.args.pair.0 r n) c.row-2.ensures
+    (c.is_bound_at.ensures.0 c.if-is_bound_at.true) in
     let (e, read, same) = bound in
     let count = c.count_below-at.ensures.count ∙ ap (prefix_len (λ e. nat_lt e.0.0 c.args.pair.0.0)) c.row.ensures in
     let again = ap (λ (r : ValueRow). slice_get r n) c.row-then-is_bound_at.ensures ∙ read in
@@ -36,6 +37,7 @@ returns-clause-ok c =
     both_ways _ c.if-is_bound_at.false
     (c.is_bound_at.ensures.1 (subst (λ (r : ValueRow). IsBoundAt c.args.pair.0 r n) (sym c.row-2.ensures) bound)) in
     c.insert.ensures.now
-    ∙ ap (λ (rs : List ValueRow). slice_set rs c.args.place (insert (slice_index_or rs c.args.place []) n (c.args.pair.0, c.args.pair.1)))
+    ∙ ap (λ (rs : List ValueRow). slice_set rs c.args.place
+    (insert (slice_index_or rs c.args.place []) n (c.args.pair.0, c.args.pair.1)))
     c.reserve_in.ensures.now
     ∙ ap (slice_set rows c.args.place) (bind-insert c.args.pair.0 c.args.pair.1 row n count other)

@@ -11,5 +11,6 @@ returns-clause-count c =
     let n = c.partition_point.result in
     let parted = IsPartitionedBy-ltb (λ (e : VarId × Value). e.0.0) row c.args.v.0 (ascending-rises row c.requires) in
     point-count (λ (e : VarId × Value). nat_lt e.0.0 c.args.v.0) row n c.partition_point.ensures.bound
-    (IsPartitionPoint-from_clause (λ (e : VarId × Value). nat_lt e.0.0 c.args.v.0) row n c.partition_point.ensures.partitioned parted
+    (IsPartitionPoint-from_clause (λ (e : VarId × Value). nat_lt e.0.0 c.args.v.0) row n
+    c.partition_point.ensures.partitioned parted
     (λ a r q k. search rules))

@@ -8,7 +8,8 @@ use Rattle.nomos_index.proofs.seeking.is_message_sought.Goals as goal
 pub returns-in-MessageUsing : goal.returns-in-MessageUsing
 returns-in-MessageUsing c number values =
     c.message_uses.ensures number values
-    ∙ sym (ap (λ (s : Sought). is_sought s (object.Message (message_held number values c.args.m.now))) c.in-MessageUsing.is)
+    ∙ sym (ap (λ (s : Sought). is_sought s (object.Message (message_held number values c.args.m.now)))
+    c.in-MessageUsing.is)
 
 pub returns-in-Mention : goal.returns-in-Mention
 returns-in-Mention c number values =

@@ -8,5 +8,6 @@ use Rattle.nomos_index.proofs.seeking.is_process_sought.Goals as goal
 pub returns-in-Keeper : goal.returns-in-Keeper
 returns-in-Keeper c cells values its_lists =
     c.stands_for.ensures cells c.args.number values its_lists
-    ∙ sym (ap (λ (s : Sought). is_sought s (object.Process (process_held cells c.args.number values its_lists c.args.p.now)))
+    ∙ sym (ap (λ (s : Sought). is_sought s
+    (object.Process (process_held cells c.args.number values its_lists c.args.p.now)))
     c.in-Keeper.is)

@@ -11,4 +11,5 @@ pub returns : goal.returns
 returns c =
     c.pid_of.ensures ∙ ap (option_map (λ p. p.pid)) c.process_in.ensures ∙ pid-seen _
     ∙ ap (λ (o : Option Object). option_map (λ p. p.pid) (option_and_then process_of o))
-    (sym (first-found (stands_for c.args.shared) (held_now c.args.contents.now) c.requires c.first.result c.first.ensures))
+    (sym (first-found (stands_for c.args.shared) (held_now c.args.contents.now) c.requires c.first.result
+    c.first.ensures))

@@ -22,6 +22,7 @@ returns-in-Some-default-Message c =
     let stands : option_and_then (standing_at h) c.args.place ≡ standing_at h at =
     ap (option_and_then (standing_at h)) c.in_ok-place.was
     in
-    ap Some (c.seen_message.ensures (slice_index_or h.value_rows at []) (value-standing h c.requires at w.number w.m holds))
+    ap Some (c.seen_message.ensures (slice_index_or h.value_rows at [])
+    (value-standing h c.requires at w.number w.m holds))
     ∙ sym (ap (λ (o : Option Object). option_map seen_message (option_and_then message_of o))
     (stands ∙ message-standing h at w.number w.m holds))

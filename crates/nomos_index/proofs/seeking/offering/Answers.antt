@@ -12,4 +12,5 @@ pub returns : goal.returns
 returns c =
     c.process_in.ensures
     ∙ ap (λ (o : Option Object). option_map seen_process (option_and_then process_of o))
-    (sym (first-found (is_offered c.args.name) (held_now c.args.contents.now) c.requires c.first.result c.first.ensures))
+    (sym (first-found (is_offered c.args.name) (held_now c.args.contents.now) c.requires c.first.result
+    c.first.ensures))

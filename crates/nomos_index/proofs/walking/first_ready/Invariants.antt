@@ -8,4 +8,5 @@ use Rattle.nomos_index.proofs.walking.first_ready.Given as goal
 abbrev pub invariant-loop-place : goal.invariant-loop-place
 invariant-loop-place g l =
     (before : ℕ) → before < l.place
-    → passes_at (is_over l.after (is_ready_in l.accepted (g.S.Sight.state l.sight))) (held_now l.contents) before ≡ false
+    → passes_at (is_over l.after (is_ready_in l.accepted (g.S.Sight.state l.sight))) (held_now l.contents) before
+    ≡ false

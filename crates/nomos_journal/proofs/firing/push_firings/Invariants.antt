@@ -9,5 +9,6 @@ use Rattle.nomos_journal.proofs.firing.push_firings.Given as goal
 abbrev pub invariant-loop-firing : goal.invariant-loop-firing
 invariant-loop-firing l =
     Written l.accepted l.firings l.firing-index l.left
-    (l.fn.text.items ++ lines_text l.accepted.annotations.unit (placed_lines l.accepted (pids_of l.firings) l.fn.places))
+    (l.fn.text.items ++ lines_text l.accepted.annotations.unit
+    (placed_lines l.accepted (pids_of l.firings) l.fn.places))
     l.text.items

@@ -23,7 +23,8 @@ loop-variable-init c = record {
   moves = λ p there.
       let none : c.in-Some.span.low - c.in-Some.span.low ≡ 0 = omega arith in
       subst (λ (k : ℕ). Moves c.args.tallies.now c.args.tallies.now (so_far c.in-Some.span.low k p) nothing) (sym none)
-      (moves-still c.args.tallies.now (so_far c.in-Some.span.low 0 p) nothing (λ d n. none-far c.in-Some.span.low p d n));
+      (moves-still c.args.tallies.now (so_far c.in-Some.span.low 0 p) nothing
+      (λ d n. none-far c.in-Some.span.low p d n));
 }
 
 pub exchange-requires : goal.exchange-requires
@@ -35,7 +36,8 @@ loop-variable-preserved c = record {
   order = c.exchange.ensures.order ∙ c.loop-variable.invariant.order;
   ascending = λ p there some. c.bound-name.ensures.order p there;
   moves = λ p there.
-      uncount-step c.in-Some.span.low p c.args.tallies.now c.loop-variable.tallies c.exchange.new.self c.loop-variable.variable
+      uncount-step c.in-Some.span.low p c.args.tallies.now c.loop-variable.tallies c.exchange.new.self
+      c.loop-variable.variable
       c.bound-name.result c.loop-variable.invariant.above (c.bound-name.ensures.name p there)
       (c.loop-variable.invariant.moves p there) c.exchange.ensures;
 }

@@ -29,7 +29,8 @@ returns c =
     c.exchange-3.ensures (λ d n. all d n)
   where
     ends : (d : Doing) (n : ℕ)
-        → count_of n (ends_used c.args.names d) + count_of n (only doing.Provides [] d) + count_of n (only doing.Uses [] d)
+        → count_of n (ends_used c.args.names d) + count_of n (only doing.Provides [] d) + count_of n
+        (only doing.Uses [] d)
         ≡ 0 + count_of n (only doing.Provides (option_to_list c.args.names.provides) d)
         + count_of n (only doing.Uses (option_to_list c.args.names.end) d)
     ends doing.Provides n = omega arith
@@ -38,7 +39,8 @@ returns c =
 
     all : (d : Doing) (n : ℕ)
         → count_of n (names_used c.args.names d) + 0 + count_of n (only doing.Uses [] d)
-        ≡ 0 + count_of n (ends_used c.args.names d) + count_of n (only doing.Uses (option_to_list c.args.names.brings) d)
+        ≡ 0 + count_of n (ends_used c.args.names d) + count_of n
+        (only doing.Uses (option_to_list c.args.names.brings) d)
     all doing.Provides n = omega arith
     all doing.Uses n =
         omega (arith, count-append n (option_to_list c.args.names.end) (option_to_list c.args.names.brings))

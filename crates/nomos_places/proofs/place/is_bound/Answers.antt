@@ -18,8 +18,9 @@ pub returns-in-Err : goal.returns-in-Err
 returns-in-Err c =
     let v = c.args.v in
     let b = c.args.entries.now in
+    let sought = always_returns_same _ _ _ (λ a r f k. search rules) in
     let at = place-found v b (Err c.in-Err.field-0) c.requires c.in-Err.ensures.bound
-    (c.in-Err.ensures.position (λ (e : VarId × TypeId). e.0.0) (always_returns_same _ _ _ (λ a r f k. search rules))) in (
+    (c.in-Err.ensures.position (λ (e : VarId × TypeId). e.0.0) sought) in (
       λ yes. absurd cc,
       λ some.
           let nothing = subst (λ (o : Option TypeId). IsSome o) (sym (place-unbound v b c.in-Err.field-0 at)) some in

@@ -27,7 +27,8 @@ loop-at-preserved c = (
       let before = c.loop-at.invariant.3 n all in
       let there : HasRoom n c.index_mut.result.now = subst (HasRoom n) (sym c.index_mut.ensures.value)
       (before c.loop-at.at c.index_mut.result.now (search rules)) in
-      All-set (HasRoom n) c.loop-at.objects.items c.loop-at.at c.reserve.new.self (c.reserve.ensures.room n there) before,
+      All-set (HasRoom n) c.loop-at.objects.items c.loop-at.at c.reserve.new.self (c.reserve.ensures.room n there)
+      before,
   let n = c.args.channels in
       let within : c.loop-at.at < length c.loop-at.objects.items = search rules in
       subst (All (HasRoom n))

@@ -9,7 +9,8 @@ use Rattle.nomos_pool.proofs.gathering.gather_dealt.Goals as goal
 pub hand_in_all-hands-requires-clause-hands : goal.hand_in_all-hands-requires-clause-hands
 hand_in_all-hands-requires-clause-hands g c = λ κs lives.
     let ready = c.in_ok-pool.ensures in
-    hands-all c.in_ok-pool.field-0.pool c.args.shares.count (λ j. dealt_to j c.args.shares.threads.now c.args.items.items)
+    hands-all c.in_ok-pool.field-0.pool c.args.shares.count
+    (λ j. dealt_to j c.args.shares.threads.now c.args.items.items)
     c.in_ok-pool.field-0.hands.items ready.hands
 
 pub close-requires-clause-senders : goal.close-requires-clause-senders
@@ -26,7 +27,8 @@ returns g c =
     let ready = c.in_ok-pool.ensures in
     let hands = c.hand_in_all-hands.result.items in
     let senders = c.senders_of.result.items in
-    gathers c.in_ok-pool.field-0.pool c.args.shares.count c.args.shares.threads.now c.args.items.items senders c.close.result.items
+    gathers c.in_ok-pool.field-0.pool c.args.shares.count c.args.shares.threads.now c.args.items.items senders
+    c.close.result.items
     (ap length c.senders_of.ensures
     ∙ (length-map hands sender_of ∙ (c.hand_in_all-hands.ensures.0 ∙ ready.hands.many)))
     (λ k s at. comes-back c.in_ok-pool.field-0.pool c.args.shares.count

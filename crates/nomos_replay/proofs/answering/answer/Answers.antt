@@ -48,6 +48,7 @@ returns g c =
     (λ (t : List ℕ). Carries a first items (record { lines = t; at = 0 }) at_head c.read_limit.new.source
     (before v (nothing_told first c.in_ok-limit.limit) items))
     c.new.ensures
-    (carries-on a first items (c.in_ok-version.ensures.read first items) (c.in_ok-limit.ensures.read first items v).1) in
+    (carries-on a first items (c.in_ok-version.ensures.read first items)
+    (c.in_ok-limit.ensures.read first items v).1) in
     answer-all a first items c.args.bytes.now (omega arith) v c.in_ok-limit.limit c.args.asked.wanted
     c.read_limit.new.source carries c.replay_all.result c.replay_all.ensures

@@ -54,7 +54,8 @@ returns-in_err-passed-clause-tells g c =
     drop_more items n i c.items-test.true ∙ ap (λ (x : ScriptItem). x ∷ drop (n + 1) items) (sym c.item-item.is) in
     let so = subst
     (λ (rest : List ScriptItem). ToldUpTo a v c.args.from c.args.walk.now.limit c.args.trial.now.wanted
-    c.args.reading.now.source items (take n items) rest c.items.reading c.items.ledger c.items.walk) left c.items.invariant.told in
+    c.args.reading.now.source items (take n items) rest c.items.reading c.items.ledger c.items.walk) left
+    c.items.invariant.told in
     let p = err_from_is_err_and c.from_residual.result c.from_residual.ensures.1 in
     rw (p.1, p.2)
     (told-stops a v c.args.from c.args.walk.now.limit c.args.trial.now.wanted i so c.in_err-passed.field-0.0
@@ -80,7 +81,8 @@ items-preserved g c =
     drop_more items n i c.items-test.true ∙ ap (λ (x : ScriptItem). x ∷ drop (n + 1) items) (sym c.item-item.is) in
     let so = subst
     (λ (rest : List ScriptItem). ToldUpTo a v c.args.from c.args.walk.now.limit c.args.trial.now.wanted
-    c.args.reading.now.source items (take n items) rest c.items.reading c.items.ledger c.items.walk) left c.items.invariant.told in
+    c.args.reading.now.source items (take n items) rest c.items.reading c.items.ledger c.items.walk) left
+    c.items.invariant.told in
     record {
       counted = c.in_ok-passed.ensures.counted;
       told =
@@ -104,4 +106,5 @@ returns-clause-tells g c =
     c.args.reading.now.source items items rest c.items.reading c.items.ledger c.items.walk) none
     (subst
     (λ (done : List ScriptItem). ToldUpTo a v c.args.from c.args.walk.now.limit c.args.trial.now.wanted
-    c.args.reading.now.source items done (drop n items) c.items.reading c.items.ledger c.items.walk) all c.items.invariant.told)
+    c.args.reading.now.source items done (drop n items) c.items.reading c.items.ledger c.items.walk) all
+    c.items.invariant.told)

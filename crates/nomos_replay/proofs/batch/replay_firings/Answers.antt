@@ -43,7 +43,8 @@ fire_line-requires-clause-numbers g c = λ left.
 pub returns-in_err-fire_line-in-Err-clause-read : goal.returns-in_err-fire_line-in-Err-clause-read
 returns-in_err-fire_line-in-Err-clause-read g c = λ first all items batch told same.
     let a = c.args.trial.now.accepted.now in
-    let p = err_from_is_err_and c.from_residual-in_err-fire_line-in-Err.result c.from_residual-in_err-fire_line-in-Err.ensures.1 in
+    let p = err_from_is_err_and c.from_residual-in_err-fire_line-in-Err.result
+    c.from_residual-in_err-fire_line-in-Err.ensures.1 in
     let stops = rw c.in-Err.ensures.0 at c.in_err-fire_line-in-Err.ensures.fires in
     rw (p.1, p.2)
     (stops-later a first all (c.lines.invariant.carries first all items batch told same) _

@@ -7,7 +7,8 @@ use Rattle.nomos_replay.proofs.heading.read_version.Goals as goal
 pub returns-in_err-line-clause-read : goal.returns-in_err-line-clause-read
 returns-in_err-line-clause-read c = λ first all.
     let p = err_from_is_err_and c.from_residual.result c.from_residual.ensures.1 in
-    rw (p.1, p.2) (stops-no_line c.args.accepted.now first all c.args.source.now stand.at_head tt _ c.in_err-line.ensures.err)
+    rw (p.1, p.2) (stops-no_line c.args.accepted.now first all c.args.source.now stand.at_head tt _
+    c.in_err-line.ensures.err)
 
 pub returns-in-Some-clause-read : goal.returns-in-Some-clause-read
 returns-in-Some-clause-read c = λ first all.

@@ -14,7 +14,8 @@ returns-in_err-whole-clause-legal g c = λ v journal is.
     let standing = ledger-standing c.requires.stands c.account-account.ensures.ledger in
     rw (p.1, p.2)
     (legal-refused c.args.accepted.now c.args.from c.args.script.now c.args.bytes.now accepted journal
-    (text-legal accepted standing c.requires.numbers script.size script.written v journal is) c.in_err-whole.field-0.0 c.in_err-whole.ensures)
+    (text-legal accepted standing c.requires.numbers script.size script.written v journal is) c.in_err-whole.field-0.0
+    c.in_err-whole.ensures)
 
 pub returns-in_err-whole-clause-refuses : goal.returns-in_err-whole-clause-refuses
 returns-in_err-whole-clause-refuses g c = λ why given.
@@ -31,7 +32,8 @@ pub returns-clause-ok : goal.returns-clause-ok
 returns-clause-ok g c =
     let made = c.with_report.ensures in
     answered-legal c.args.accepted.now c.args.from c.args.script.now c.args.bytes.now c.in_ok-whole.ensures
-    c.with_report.result.journal c.with_report.result.ledger c.with_report.result.report.items made.journal made.ledger made.report
+    c.with_report.result.journal c.with_report.result.ledger c.with_report.result.report.items made.journal made.ledger
+    made.report
 
 pub returns-clause-legal : goal.returns-clause-legal
 returns-clause-legal g c = λ v journal is.
@@ -39,7 +41,8 @@ returns-clause-legal g c = λ v journal is.
     let script = c.items-items.ensures in
     let standing = ledger-standing c.requires.stands c.account-account.ensures.ledger in
     rw c.with_report.ensures.journal
-    (legal-told c.args.accepted.now c.args.from c.args.script.now c.args.bytes.now c.in_ok-whole.ensures accepted journal
+    (legal-told c.args.accepted.now c.args.from c.args.script.now c.args.bytes.now c.in_ok-whole.ensures accepted
+    journal
     (text-legal accepted standing c.requires.numbers script.size script.written v journal is))
 
 pub returns-clause-refuses : goal.returns-clause-refuses

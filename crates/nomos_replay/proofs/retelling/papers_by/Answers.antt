@@ -7,7 +7,8 @@ no_memory-requires g c =
     let accepted = c.program-program.ensures.accepted in
     let script = c.items-items.ensures in
     legal-refused c.args.accepted.now c.args.from c.args.asked.script.now c.deref.result.now accepted c.args.journal.now
-    (kept-legal accepted c.requires.stands c.account-account.ensures.ledger c.requires.numbers script.size script.written
+    (kept-legal accepted c.requires.stands c.account-account.ensures.ledger c.requires.numbers script.size
+    script.written
     c.requires.legal c.unit.ensures c.in_ok-text.ensures c.deref.ensures.value)
     c.in-Err.why c.in-Err.ensures
 
@@ -17,5 +18,6 @@ returns-in-Ok g c =
     let script = c.items-items.ensures in
     legal-papers c.args.accepted.now c.args.from c.args.asked.script.now c.deref.result.now c.in-Ok.ensures accepted
     c.args.journal.now
-    (kept-legal accepted c.requires.stands c.account-account.ensures.ledger c.requires.numbers script.size script.written
+    (kept-legal accepted c.requires.stands c.account-account.ensures.ledger c.requires.numbers script.size
+    script.written
     c.requires.legal c.unit.ensures c.in_ok-text.ensures c.deref.ensures.value)

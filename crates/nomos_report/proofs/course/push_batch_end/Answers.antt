@@ -20,5 +20,6 @@ returns g c =
     let spent = c.requires.spent ∙ sym (starts-spent a w.origin w.starts) in
     subst
     (λ (t : List ℕ). OnOk c.push_course_end.result (c.push_course_end.new.text.items ≡ c.args.text.now.items ++ t))
-    (λ i. end_lines a c.args.outset.line (length (c.firings.ensures i)) (spent i) (c.state.ensures.state i) c.args.end.now)
+    (λ i. end_lines a c.args.outset.line (length (c.firings.ensures i)) (spent i) (c.state.ensures.state i)
+    c.args.end.now)
     c.push_course_end.ensures

@@ -24,6 +24,7 @@ returns g c =
     in
     subst (λ (t : List ℕ). OnOk c.push_standing.result (c.push_standing.new.text.items ≡ t))
     (ap (λ (t : List ℕ). t ++ tail) c.in_ok-push_named.ensures
-    ∙ contract-printed c.requires unit c.args.contract.shared c.in-Some.pid c.args.text.now.items c.args.contract.name.now
+    ∙ contract-printed c.requires unit c.args.contract.shared c.in-Some.pid c.args.text.now.items
+    c.args.contract.name.now
     view (sym c.in-Some.ensures) c.in-Some-view.ensures)
     c.push_standing.ensures

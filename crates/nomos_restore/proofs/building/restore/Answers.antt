@@ -34,7 +34,8 @@ come_objects-requires-clause-next g c =
     let number : (g.P.Sight.state c.come_names.new.parts).next_object ≡ 0 =
     ap (λ (s : State). s.next_object) c.come_names.ensures.state ∙ ap (λ (s : State). s.next_object) begins in
     subst (λ (n : ℕ). AreNext object_number n plain.next_object c.into_vec-objects.result.items) (sym number)
-    (subst (λ (objects : List Object). AreNext object_number 0 plain.next_object objects) (sym c.into_vec-objects.ensures)
+    (subst (λ (objects : List Object). AreNext object_number 0 plain.next_object objects)
+    (sym c.into_vec-objects.ensures)
     (first-objects plain c.requires.ordered))
 
 pub come_objects-requires-clause-above : goal.come_objects-requires-clause-above

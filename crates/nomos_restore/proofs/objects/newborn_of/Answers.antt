@@ -13,6 +13,7 @@ returns c =
     let channels = bindings_of c.into_vec-3.result.items in
     ap (λ (values : List (VarId × Value)). record p { values = values; lists = its_lists; channels = channels })
     c.into_vec.ensures
-    ∙ ap (λ (lists : List (VarId × PotentialList)). record p { lists = lists; channels = channels }) c.into_vec-2.ensures
+    ∙ ap (λ (lists : List (VarId × PotentialList)). record p { lists = lists; channels = channels })
+    c.into_vec-2.ensures
     ∙ ap (λ (pairs : List (VarId × ℕ)). record p { channels = bindings_of pairs }) c.into_vec-3.ensures
     ∙ ap (λ (pairs : List (VarId × ℕ)). record p { channels = pairs }) (bindings-same p.channels c.requires.channels)

@@ -23,7 +23,8 @@ run_batch-ran-requires-clause-may g c = λ κs lives.
 
 pub finish_ran-requires-clause-stands : goal.finish_ran-requires-clause-stands
 finish_ran-requires-clause-stands g c =
-    subst (λ (b : Acceptance). WorldStandsFor b c.run_batch-ran.result.world) c.accepted.ensures c.run_batch-ran.ensures.runs.stands
+    subst (λ (b : Acceptance). WorldStandsFor b c.run_batch-ran.result.world) c.accepted.ensures
+    c.run_batch-ran.ensures.runs.stands
 
 pub finish_ran-requires-clause-spent : goal.finish_ran-requires-clause-spent
 finish_ran-requires-clause-spent g c =
@@ -39,7 +40,8 @@ finish_ran-requires-clause-ends g c =
     let v = c.run_batch-ran.result.world in
     subst (λ (n : ℕ). MayEnd before.accepted v.state (length v.firings) n c.run_batch-ran.result.end)
     c.next_limit-limit.ensures.limit
-    (subst (λ (b : Acceptance). MayEnd b v.state (length v.firings) c.next_limit-limit.result c.run_batch-ran.result.end)
+    (subst (λ (b : Acceptance). MayEnd b v.state (length v.firings) c.next_limit-limit.result
+    c.run_batch-ran.result.end)
     c.accepted.ensures c.run_batch-ran.ensures.ends)
 
 pub returns : goal.returns

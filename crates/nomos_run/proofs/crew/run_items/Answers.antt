@@ -50,7 +50,8 @@ items-preserved g c =
     take_more items n i c.items-test.true ∙ ap (λ (x : ScriptItem). take n items ++ x ∷ []) (sym c.item-item.is)
     in
     subst
-    (λ (is : List ScriptItem). HasGone c.args.way.now.walk.accepted c.args.from c.args.runner.now.orders is c.keep.new.entries.items
+    (λ (is : List ScriptItem). HasGone c.args.way.now.walk.accepted c.args.from c.args.runner.now.orders is
+    c.keep.new.entries.items
     c.in_ok-passed.passed.ledger c.carry_out.new.walk) (sym more)
     (gone-more c.in_ok-passed.passed c.items.invariant c.in_ok-passed.ensures c.in_ok-keep.ensures.ok)
 

@@ -23,11 +23,13 @@ run_items-last-requires-clause-accounts g c = λ κs lives. empty-accounts c.emp
 pub run_items-last-requires-clause-stands : goal.run_items-last-requires-clause-stands
 run_items-last-requires-clause-stands g c = λ κs lives.
     subst (λ (a : Acceptance). StandsFor a c.empty-from.result) (sym (begun-accepted
-    (gone-begun c.args.accepted.now c.empty-from.result c.args.runner.now.orders c.requires.limit c.in-Ok.ensures.walk c.in-Ok.ensures.entries))) (c.empty-from.ensures.stands c.args.accepted.now)
+    (gone-begun c.args.accepted.now c.empty-from.result c.args.runner.now.orders c.requires.limit c.in-Ok.ensures.walk
+    c.in-Ok.ensures.entries))) (c.empty-from.ensures.stands c.args.accepted.now)
 
 pub run_items-last-requires-clause-begins : goal.run_items-last-requires-clause-begins
 run_items-last-requires-clause-begins g c = λ κs lives. begun-there
-    (gone-begun c.args.accepted.now c.empty-from.result c.args.runner.now.orders c.requires.limit c.in-Ok.ensures.walk c.in-Ok.ensures.entries)
+    (gone-begun c.args.accepted.now c.empty-from.result c.args.runner.now.orders c.requires.limit c.in-Ok.ensures.walk
+    c.in-Ok.ensures.entries)
 
 pub end-requires : goal.end-requires
 end-requires g c = last-report _ _ _ _ _ _ c.run_items-last.result c.run_items-last.ensures.ok
@@ -36,7 +38,8 @@ pub returns-clause-runs : goal.returns-clause-runs
 returns-clause-runs g c =
     run-empty c.end.result c.empty-from.ensures.empty
     (script-run _ c.end.result c.run_items-last.result (begun-accepted
-    (gone-begun c.args.accepted.now c.empty-from.result c.args.runner.now.orders c.requires.limit c.in-Ok.ensures.walk c.in-Ok.ensures.entries))
+    (gone-begun c.args.accepted.now c.empty-from.result c.args.runner.now.orders c.requires.limit c.in-Ok.ensures.walk
+    c.in-Ok.ensures.entries))
     (c.as_slice-items.ensures ∙ c.items.ensures.items) c.program-program.ensures.accepted
     (ledger-standing (c.empty-from.ensures.stands c.args.accepted.now) c.know_ledger.ensures)
     c.run_items-last.ensures.ok c.run_items-last.ensures.err c.end.ensures.journal c.end.ensures.whole

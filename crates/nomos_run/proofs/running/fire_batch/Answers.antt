@@ -23,7 +23,8 @@ run_by-ran-requires g c =
 
 pub finish_ran-requires-clause-stands : goal.finish_ran-requires-clause-stands
 finish_ran-requires-clause-stands g c =
-    subst (λ (b : Acceptance). WorldStandsFor b c.run_by-ran.result.world) c.accepted.ensures c.run_by-ran.ensures.runs.runs.stands
+    subst (λ (b : Acceptance). WorldStandsFor b c.run_by-ran.result.world) c.accepted.ensures
+    c.run_by-ran.ensures.runs.runs.stands
 
 pub finish_ran-requires-clause-spent : goal.finish_ran-requires-clause-spent
 finish_ran-requires-clause-spent g c =
@@ -40,7 +41,8 @@ finish_ran-requires-clause-ends g c =
     subst (λ (n : ℕ). MayEnd before.accepted v.state (length v.firings) n c.run_by-ran.result.end)
     c.next_limit-limit.ensures.limit
     (subst (λ (b : Acceptance). MayEnd b v.state (length v.firings) c.next_limit-limit.result c.run_by-ran.result.end)
-    c.accepted.ensures (by-may c.args.policy c.accepted.result.now c.next_limit-limit.result v c.run_by-ran.result.end c.run_by-ran.ensures.ends))
+    c.accepted.ensures (by-may c.args.policy c.accepted.result.now c.next_limit-limit.result v c.run_by-ran.result.end
+    c.run_by-ran.ensures.ends))
 
 pub returns : goal.returns
 returns g c = λ l i under.

@@ -37,4 +37,5 @@ loop-left-preserved c =
 
 pub returns : goal.returns
 returns c =
-    ReadDigits-all c.args.digits.now c.loop-left.left.now c.loop-left.number c.loop-left.invariant c.in_default.len_below
+    ReadDigits-all c.args.digits.now c.loop-left.left.now c.loop-left.number c.loop-left.invariant
+    c.in_default.len_below

@@ -30,7 +30,8 @@ cross-number-requires-clause-a c =
     let g = to_z w128 (of_z w128 c.args.g) in
     let in_of : i < length of = omega arith in
     let at : get_or c.loop-i.of i (pos 0) ≡ get_or of i (pos 0) =
-    ap (λ xs. get_or xs i (pos 0)) c.loop-i.invariant.value ∙ made_at (pos 1) g of by i (pos 0) in_of c.requires.width in
+    ap (λ xs. get_or xs i (pos 0)) c.loop-i.invariant.value ∙ made_at (pos 1) g of by i (pos 0) in_of
+    c.requires.width in
     let back : to_z w128 (of_z w128 (get_or c.loop-i.of i (pos 0))) ≡ get_or of i (pos 0) =
     (λ q. to_z w128 (of_z w128 (at q))) ∙ number_back (get_or of i (pos 0)) (c.requires.of i (pos 0) in_of) in
     subst IsNumber (sym back) (c.requires.of i (pos 0) in_of)

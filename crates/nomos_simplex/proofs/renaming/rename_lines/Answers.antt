@@ -28,12 +28,14 @@ loop-i-preserved c =
     let old = c.index-lines-i.result in
     let at : get_or lines i old ≡ line_at lines i = get_or_default lines i old no_line within in
     let is : x ≡ named x.basic (line_at lines i) = made.named ∙ ap (named x.basic) at in
-    let class = get_or_default classes i (record { first = 0; last = 0 }) no_class (omega (arith, c.requires.long, so_far.long, within)) in
+    let class = get_or_default classes i (record { first = 0; last = 0 }) no_class
+    (omega (arith, c.requires.long, so_far.long, within)) in
     let fits : FitsSigned w128 (get_or c.loop-i.over i (pos 0)) = search rules in
     let fits_made : FitsSigned w128 c.rename_line.result = search rules in
     let over_at : (nonbasic : List ℕ) → c.args.bounds.now ≡ map (bound_of rows) nonbasic →
     c.args.over.now ≡ map (over_of rows nonbasic) c.args.lines.now →
-    to_z w128 (of_z w128 (get_or c.loop-i.over i (pos 0))) ≡ over_of rows nonbasic (get_or lines i old) = λ nonbasic b e.
+    to_z w128 (of_z w128 (get_or c.loop-i.over i (pos 0))) ≡ over_of rows nonbasic (get_or lines i old) =
+    λ nonbasic b e.
     to_z-of_z w128 (get_or c.loop-i.over i (pos 0)) fits
     ∙ ap (λ zs. get_or zs i (pos 0)) (so_far.over nonbasic b e)
     ∙ get_or-map (over_of rows nonbasic) lines i old (pos 0) within in
@@ -43,7 +45,8 @@ loop-i-preserved c =
       are_lines = All-set (IsLine n) lines i x
           (subst (IsLine n) (sym is) (named-is_line n x.basic (line_at lines i) (so_far.are_lines i no_line within)))
           so_far.are_lines;
-      same = λ k h. where_set (λ m l. m < length c.args.lines.now → SameNumbers l (line_at c.args.lines.now m)) lines i x within
+      same = λ k h. where_set (λ m l. m < length c.args.lines.now → SameNumbers l (line_at c.args.lines.now m)) lines i
+          x within
           (λ g. subst (λ l. SameNumbers l (line_at c.args.lines.now i)) (sym is)
           (let s = so_far.same i g in record { times = s.times; coefs = s.coefs })) k
           (λ _ g. so_far.same k g) h;
@@ -56,5 +59,6 @@ loop-i-preserved c =
           ∙ made.over nonbasic b (over_at nonbasic b e))
           ∙ sym (map-set f lines i x);
       lead = λ nonbasic b e k h. where_set (λ m l. IsLead rows nonbasic (class_at classes m) l) lines i x within
-          (subst (λ a. IsLead rows nonbasic a x) class (made.lead nonbasic (over_at nonbasic b e))) k (λ apart. so_far.lead nonbasic b e k (omega (arith, h, apart)));
+          (subst (λ a. IsLead rows nonbasic a x) class (made.lead nonbasic (over_at nonbasic b e))) k
+          (λ apart. so_far.lead nonbasic b e k (omega (arith, h, apart)));
     }

@@ -75,7 +75,8 @@ rename-requires-clause-shows c =
     (λ i l. c.raise.ensures.value i l
     ∙ (λ q. get_or c.deref_mut.result.now i (pos 0) +ℤ coef_at j (line_at (c.as_slice-2.ensures q) i) *ℤ back q)) in
     c.of_vec-2.ensures
-    ∙ written c.into_vec-over.result.len c.raise.new.over _ (omega (arith, c.raise.ensures.long, c.deref_mut.ensures.len))
+    ∙ written c.into_vec-over.result.len c.raise.new.over _
+    (omega (arith, c.raise.ensures.long, c.deref_mut.ensures.len))
     ∙ risen ∙ ap (λ vs. map (over_of rows vs) table.lines) (sym is)
 
 pub rename-requires-clause-fit : goal.rename-requires-clause-fit

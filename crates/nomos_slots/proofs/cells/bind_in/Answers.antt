@@ -21,7 +21,8 @@ returns-in-Some-clause-probed c =
     let near : home_of homes old ≤ at = probed.near at old is in
     let l : at < length cells = some-within cells at old is in
     subst (IsProbed homes) (sym c.put.ensures.now)
-    (probed-come homes cells at e probed l (others-apart homes e.process e.variable at cells old probed is of) (omega arith)
+    (probed-come homes cells at e probed l (others-apart homes e.process e.variable at cells old probed is of)
+    (omega arith)
     (λ i from before. probed.full i at old is (omega arith) before))
 
 pub returns-in-Some-clause-names : goal.returns-in-Some-clause-names
@@ -35,12 +36,14 @@ returns-in-Some-clause-names c p v =
     let l : at < length cells = some-within cells at old is in
     ap (λ (cs : List Cell). name_in cs p v) c.put.ensures.now
     ∙ names-come homes cells at e probed l (others-apart homes e.process e.variable at cells old probed is of)
-    (λ f has. subst (λ (k : Named). is_of e.process e.variable k ≡ true) (same-entry cells at at old f refl is has) of) p v
+    (λ f has. subst (λ (k : Named). is_of e.process e.variable k ≡ true) (same-entry cells at at old f refl is has) of)
+    p v
 
 pub unreachable-requires : goal.unreachable-requires
 unreachable-requires c =
     let cells = c.args.cells.now.now in
-    let many : length cells ≤ c.home.result + entries cells = all-filled cells c.home.result c.in_default-empty_in.ensures in
+    let many : length cells ≤ c.home.result + entries cells =
+    all-filled cells c.home.result c.in_default-empty_in.ensures in
     omega arith
 
 pub returns-clause-probed : goal.returns-clause-probed

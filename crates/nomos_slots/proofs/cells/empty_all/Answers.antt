@@ -13,12 +13,14 @@ loop-at-preserved c =
     record {
       len = ap length c.put.ensures.now ∙ length-set cells at None ∙ inv.len;
       empty = λ place before.
-          ap (λ (cs : List Cell). cell_at cs place) c.put.ensures.now ∙ empty-more cells at within inv.empty place before;
+          ap (λ (cs : List Cell). cell_at cs place) c.put.ensures.now ∙ empty-more cells at within inv.empty place
+          before;
       seats = c.put.ensures.seats ∙ inv.seats;
       marked = c.put.ensures.marked ∙ inv.marked;
     }
 
 pub returns-clause-empty : goal.returns-clause-empty
 returns-clause-empty c =
-    let past : length c.loop-at.cells.now ≤ c.loop-at.at = omega (arith, c.len-at-end.ensures, c.loop-at.invariant.len) in
+    let past : length c.loop-at.cells.now ≤ c.loop-at.at =
+    omega (arith, c.len-at-end.ensures, c.loop-at.invariant.len) in
     empty-whole c.loop-at.cells.now c.loop-at.at past c.loop-at.invariant.empty

@@ -32,7 +32,14 @@ loop-at-preserved c =
           ∙ ap (λ (k : Cell). with_cell k p v (name_in (take at from) p v)) c.cell.ensures
           ∙ sym (names-more from at p v c.requires.once within);
       count = omega (arith, inv.count, c.bind_any-count.ensures.entries);
-      few = omega (arith, inv.few, more, c.bind_any-count.ensures.one, ap (λ (k : Cell). entries (k ∷ [])) c.cell.ensures);
+      few = omega (
+        arith,
+        inv.few,
+        more,
+        c.bind_any-count.ensures.one,
+        ap (λ (k : Cell). entries (k ∷ []))
+            c.cell.ensures,
+      );
       len = c.bind_any-count.ensures.len ∙ inv.len;
       marked = c.bind_any-count.ensures.marked ∙ inv.marked;
       seats = c.bind_any-count.ensures.seats ∙ inv.seats;
@@ -46,4 +53,5 @@ bind_any-count-requires-clause-room c =
 pub returns-clause-names : goal.returns-clause-names
 returns-clause-names c p v =
     let past : length c.args.from.now.now ≤ c.loop-at.at = omega (arith, c.len-at-end.ensures) in
-    c.loop-at.invariant.names p v ∙ ap (λ (cs : List Cell). name_in cs p v) (take_all c.loop-at.at c.args.from.now.now past)
+    c.loop-at.invariant.names p v ∙ ap (λ (cs : List Cell). name_in cs p v)
+    (take_all c.loop-at.at c.args.from.now.now past)

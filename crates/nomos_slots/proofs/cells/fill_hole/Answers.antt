@@ -21,7 +21,8 @@ returns-clause-names c p v =
     let next = c.args.next.0 in
     let e = c.args.next.1 in
     let early : home_of homes e ≤ c.args.hole = omega (arith, c.home.ensures.home) in
-    ap (λ (cs : List Cell). name_in cs p v) (c.put-2.ensures.now ∙ ap (λ (cs : List Cell). set cs next None) c.put.ensures.now)
+    ap (λ (cs : List Cell). name_in cs p v) (c.put-2.ensures.now ∙ ap (λ (cs : List Cell). set cs next None)
+    c.put.ensures.now)
     ∙ names-moved homes cells c.args.hole next c.requires.gap e c.requires.next early c.requires.within p v
 
 pub returns-clause-entries : goal.returns-clause-entries

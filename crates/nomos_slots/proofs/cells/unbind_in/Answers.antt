@@ -16,7 +16,8 @@ close_up-requires-clause-gap c =
     (gap-opened homes cells at e c.requires.probed is (some-within cells at e is))
 
 pub returns-in_default-clause-names : goal.returns-in_default-clause-names
-returns-in_default-clause-names c p v = none-name_in c.args.cells.now.now c.args.process c.args.variable p v c.in_default.ensures
+returns-in_default-clause-names c p v = none-name_in c.args.cells.now.now c.args.process c.args.variable p v
+    c.in_default.ensures
 
 pub returns-clause-names : goal.returns-clause-names
 returns-clause-names c p v =
@@ -41,4 +42,5 @@ returns-clause-entries c =
 
 pub returns-in_default-clause-one : goal.returns-in_default-clause-one
 returns-in_default-clause-one c some =
-    absurd (both_ways _ (ap is_some (nothing-named c.args.cells.now.now c.args.process c.args.variable c.in_default.ensures)) some)
+    absurd (both_ways _ (ap is_some (nothing-named c.args.cells.now.now c.args.process c.args.variable
+    c.in_default.ensures)) some)

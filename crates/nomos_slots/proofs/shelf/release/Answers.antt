@@ -32,4 +32,5 @@ loop-step-preserved g c =
 
 pub returns-clause-freed : goal.returns-clause-freed
 returns-clause-freed g c =
-    none-freed c.loop-step.rows.items c.args.log.now c.loop-step.step-index c.loop-step-test.false c.loop-step.invariant.covered
+    none-freed c.loop-step.rows.items c.args.log.now c.loop-step.step-index c.loop-step-test.false
+    c.loop-step.invariant.covered

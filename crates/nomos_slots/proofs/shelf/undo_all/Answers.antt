@@ -17,7 +17,8 @@ loop-step-preserved g c =
       rows = undo-popped log rest e (rows_of rows) _ split c.undo_step.ensures.rows ∙ c.loop-step.invariant.rows;
       below = subst (All (λ (s : Step _). place_of s < vec_len c.args.rows.now)) (sym c.in-Some.ensures.rest)
           (All-take (λ (s : Step _). place_of s < vec_len c.args.rows.now) _ log c.loop-step.invariant.below);
-      covered = covered-popped rows c.undo_step.new.rows.items log rest e split c.loop-step.invariant.covered c.undo_step.ensures.freed;
+      covered = covered-popped rows c.undo_step.new.rows.items log rest e split c.loop-step.invariant.covered
+          c.undo_step.ensures.freed;
       len = c.undo_step.ensures.len ∙ c.loop-step.invariant.len;
       capacity = c.undo_step.ensures.capacity ∙ c.loop-step.invariant.capacity;
       log_capacity = c.pop.ensures.capacity ∙ c.loop-step.invariant.log_capacity;

@@ -6,8 +6,11 @@ pub returns-then-rest-eq0-clause-lowest : goal.returns-then-rest-eq0-clause-lowe
 returns-then-rest-eq0-clause-lowest c = λ q over. no_bit-shifted c.args.word c.args.from q c.if-rest-eq0.true over
 
 pub returns-clause-lowest : goal.returns-clause-lowest
-returns-clause-lowest c =
-    (omega arith, bit-shifted_at c.args.word c.args.from (omega arith) c.if-rest-eq0.false, bit-shifted_below c.args.word c.args.from (omega arith) c.if-rest-eq0.false)
+returns-clause-lowest c = (
+  omega arith,
+  bit-shifted_at c.args.word c.args.from (omega arith) c.if-rest-eq0.false,
+  bit-shifted_below c.args.word c.args.from (omega arith) c.if-rest-eq0.false,
+)
 
 pub returns-clause-bit : goal.returns-clause-bit
 returns-clause-bit c = bit-shifted_lt c.args.word c.args.from (omega arith) c.if-rest-eq0.false

@@ -34,5 +34,6 @@ returns c = λ lists same.
       },
       c.in-Some.ensures.1
           ∙ ap (λ (ws : List (List ℕ)). head_words c.in-Some.head ws)
-          (brings.1 ∙ ap (λ (ws : List (List ℕ)). payload_words lists c.in-Some-2.payload ++ ws) c.in-Some-last_purse.ensures.1),
+          (brings.1 ∙ ap (λ (ws : List (List ℕ)). payload_words lists c.in-Some-2.payload ++ ws)
+          c.in-Some-last_purse.ensures.1),
     )

@@ -26,7 +26,8 @@ take_items-returns-in-None t c =
     ∙ map-append value_of c.loop-nodes.nodes.items (c.in-Some-2.node ∷ []) in
     let closes = rw items at c.close_list.ensures in
     row-closed c.close_list.result (λ r. r.now) c.args.depth c.args.text.now c.loop-nodes.left.now c.in-Some-2.rest.now
-    (map value_of c.loop-nodes.nodes.items) (value_of c.in-Some-2.node) c.in_default.ensures c.loop-nodes.invariant begins
+    (map value_of c.loop-nodes.nodes.items) (value_of c.in-Some-2.node) c.in_default.ensures c.loop-nodes.invariant
+    begins
     c.in-None.ensures closes
 
 pub take_items-returns : goal.take_items-returns
@@ -38,7 +39,8 @@ take_items-returns t c =
 pub take_value-returns-in-None : goal.take_value-returns-in-None
 take_value-returns-in-None t c =
     let none = rw c.in-None.is at c.read_scalar.ensures in
-    scalar-none c.args.depth c.args.text.now c.split_scalar.result.0.now c.split_scalar.result.1.now c.in_default.ensures
+    scalar-none c.args.depth c.args.text.now c.split_scalar.result.0.now c.split_scalar.result.1.now
+    c.in_default.ensures
     c.split_scalar.ensures none
 
 pub take_value-returns-then-depth-eq0 : goal.take_value-returns-then-depth-eq0

@@ -10,9 +10,11 @@ use Rattle.nomos_snapshot.proofs.whole.gather.Goals as goal
 pub returns-in-None-clause-told : goal.returns-in-None-clause-told
 returns-in-None-clause-told c =
     let none = rw c.in-None.is at c.in_ok-next.ensures in
-    bad-read c.args.accepted.now c.args.text.now c.loop-line.left.now c.in-Some.line.now c.in-Some.rest.now c.loop-line.at
+    bad-read c.args.accepted.now c.args.text.now c.loop-line.left.now c.in-Some.line.now c.in-Some.rest.now
+    c.loop-line.at
     c.loop-line.stand
-    (subst (λ (p : ProgramLists). NamesAreShort p) c.program-program.ensures.program c.lists-lists.ensures.program.names)
+    (subst (λ (p : ProgramLists). NamesAreShort p) c.program-program.ensures.program
+    c.lists-lists.ensures.program.names)
     c.loop-line.invariant.0 c.in-Some.ensures none
 
 pub loop-line-preserved : goal.loop-line-preserved
@@ -37,7 +39,8 @@ pub returns-in-Some-ended-clause-told : goal.returns-in-Some-ended-clause-told
 returns-in-Some-ended-clause-told c =
     whole-read c.args.accepted.now c.args.text.now c.loop-line.left.now c.loop-line.at c.loop-line.stand
     (told c.in-Some-ended.gathering) c.loop-line.invariant.0
-    (empty-text c.loop-line.left.now c.is_empty.result c.is_empty.ensures c.if-not-is_empty.false) c.in-Some-ended.ensures.ended
+    (empty-text c.loop-line.left.now c.is_empty.result c.is_empty.ensures c.if-not-is_empty.false)
+    c.in-Some-ended.ensures.ended
 
 pub returns-clause-told : goal.returns-clause-told
 returns-clause-told c =

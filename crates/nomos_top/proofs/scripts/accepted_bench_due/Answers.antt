@@ -8,15 +8,18 @@ indexed_bench_due-due-requires-clause-one c = (policy.First, ap (λ orders. orde
 
 pub returns-clause-ok : goal.returns-clause-ok
 returns-clause-ok c = rw c.due_behind.ensures
-    (behind-ok c.args.accepted c.indexed_bench_due-due.result _ (rw c.bench_orders.ensures at c.indexed_bench_due-due.ensures.ok))
+    (behind-ok c.args.accepted c.indexed_bench_due-due.result _
+    (rw c.bench_orders.ensures at c.indexed_bench_due-due.ensures.ok))
 
 pub returns-clause-kept : goal.returns-clause-kept
 returns-clause-kept c =
-    rw c.due_behind.ensures (behind-ok c.args.accepted c.indexed_bench_due-due.result _ c.indexed_bench_due-due.ensures.kept)
+    rw c.due_behind.ensures (behind-ok c.args.accepted c.indexed_bench_due-due.result _
+    c.indexed_bench_due-due.ensures.kept)
 
 pub returns-clause-err : goal.returns-clause-err
 returns-clause-err c = rw c.due_behind.ensures
-    (behind-err c.args.accepted c.indexed_bench_due-due.result _ (rw c.bench_orders.ensures at c.indexed_bench_due-due.ensures.err))
+    (behind-err c.args.accepted c.indexed_bench_due-due.result _
+    (rw c.bench_orders.ensures at c.indexed_bench_due-due.ensures.err))
 
 pub returns-clause-given : goal.returns-clause-given
 returns-clause-given c = rw c.due_behind.ensures (behind-given c.args.accepted c.indexed_bench_due-due.result)

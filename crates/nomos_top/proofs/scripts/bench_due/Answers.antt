@@ -5,15 +5,19 @@ use Rattle.nomos_words.specs.Words.{bench}
 
 pub returns-in-Ok-clause-ok : goal.returns-in-Ok-clause-ok
 returns-in-Ok-clause-ok c = λ contract script journal.
-    ok-given c.accepted_bench_due.result c.in-Ok.accepted _ _ c.accepted_bench_due.ensures.given c.accepted_bench_due.ensures.untaken
-    (λ d gives untaken due. due-bench _ c.args.load.seed c.args.load.bidders c.in-Ok.accepted d c.in-Ok.ensures gives untaken due.1
+    ok-given c.accepted_bench_due.result c.in-Ok.accepted _ _ c.accepted_bench_due.ensures.given
+    c.accepted_bench_due.ensures.untaken
+    (λ d gives untaken due. due-bench _ c.args.load.seed c.args.load.bidders c.in-Ok.accepted d c.in-Ok.ensures gives
+    untaken due.1
     due.0)
     (if_ok-both c.accepted_bench_due.result _ _ c.accepted_bench_due.ensures.ok c.accepted_bench_due.ensures.kept)
 
 pub returns-in-Ok-clause-err : goal.returns-in-Ok-clause-err
 returns-in-Ok-clause-err c = λ contract script journal.
-    err-given c.accepted_bench_due.result c.in-Ok.accepted _ _ c.accepted_bench_due.ensures.given c.accepted_bench_due.ensures.untaken
-    (λ part gives untaken done. part-bench _ c.args.load.seed c.args.load.bidders c.in-Ok.accepted part c.in-Ok.ensures gives untaken
+    err-given c.accepted_bench_due.result c.in-Ok.accepted _ _ c.accepted_bench_due.ensures.given
+    c.accepted_bench_due.ensures.untaken
+    (λ part gives untaken done. part-bench _ c.args.load.seed c.args.load.bidders c.in-Ok.accepted part c.in-Ok.ensures
+    gives untaken
     done)
     c.accepted_bench_due.ensures.err
 

@@ -10,15 +10,19 @@ use Rattle.nomos_words.specs.Words.{run}
 pub returns-in-Ok-clause-ok : goal.returns-in-Ok-clause-ok
 returns-in-Ok-clause-ok g c = λ file words by steps kept journal same.
     let f = c.in-Ok.ensures in
-    ok-given c.accepted_run_due.result c.in-Ok.accepted _ _ c.accepted_run_due.ensures.given c.accepted_run_due.ensures.untaken
-    (λ d gives untaken due. due-run _ file words by steps kept c.args.orders f.0 c.in-Ok.accepted d f.1 f.2 gives untaken same due)
+    ok-given c.accepted_run_due.result c.in-Ok.accepted _ _ c.accepted_run_due.ensures.given
+    c.accepted_run_due.ensures.untaken
+    (λ d gives untaken due. due-run _ file words by steps kept c.args.orders f.0 c.in-Ok.accepted d f.1 f.2 gives
+    untaken same due)
     c.accepted_run_due.ensures.ok
 
 pub returns-in-Ok-clause-err : goal.returns-in-Ok-clause-err
 returns-in-Ok-clause-err g c = λ file words by steps kept journal same.
     let f = c.in-Ok.ensures in
-    err-given c.accepted_run_due.result c.in-Ok.accepted _ _ c.accepted_run_due.ensures.given c.accepted_run_due.ensures.untaken
-    (λ part gives untaken done. part-run _ file words by steps kept c.args.orders f.0 c.in-Ok.accepted part f.1 f.2 gives untaken same
+    err-given c.accepted_run_due.result c.in-Ok.accepted _ _ c.accepted_run_due.ensures.given
+    c.accepted_run_due.ensures.untaken
+    (λ part gives untaken done. part-run _ file words by steps kept c.args.orders f.0 c.in-Ok.accepted part f.1 f.2
+    gives untaken same
     done)
     c.accepted_run_due.ensures.err
 

@@ -2,10 +2,12 @@ use Rattle.nomos_top.proofs.DueLemmas.{behind-err, behind-given, behind-ok, behi
 use Rattle.nomos_top.proofs.snapshots.accepted_save_due.Goals as goal
 
 pub returns-clause-ok : goal.returns-clause-ok
-returns-clause-ok g c = rw c.due_behind.ensures (behind-ok c.args.accepted c.save_due-due.result _ c.save_due-due.ensures.ok)
+returns-clause-ok g c = rw c.due_behind.ensures (behind-ok c.args.accepted c.save_due-due.result _
+    c.save_due-due.ensures.ok)
 
 pub returns-clause-err : goal.returns-clause-err
-returns-clause-err g c = rw c.due_behind.ensures (behind-err c.args.accepted c.save_due-due.result _ c.save_due-due.ensures.err)
+returns-clause-err g c = rw c.due_behind.ensures (behind-err c.args.accepted c.save_due-due.result _
+    c.save_due-due.ensures.err)
 
 pub returns-clause-given : goal.returns-clause-given
 returns-clause-given g c = rw c.due_behind.ensures (behind-given c.args.accepted c.save_due-due.result)

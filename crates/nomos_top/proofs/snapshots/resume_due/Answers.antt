@@ -18,14 +18,16 @@ given-one {given} {text} {first} a b gives is loads =
 pub returns-in-Ok-clause-ok : goal.returns-in-Ok-clause-ok
 returns-in-Ok-clause-ok g c = λ file kept words.
     let f = c.in-Ok.ensures in
-    ok-given c.accepted_resume_due.result c.in-Ok.accepted _ _ c.accepted_resume_due.ensures.given c.accepted_resume_due.ensures.untaken
+    ok-given c.accepted_resume_due.result c.in-Ok.accepted _ _ c.accepted_resume_due.ensures.given
+    c.accepted_resume_due.ensures.untaken
     (λ d gives untaken due. due-resume _ file kept words f.0 c.in-Ok.accepted d f.1 f.2 gives untaken due)
     c.accepted_resume_due.ensures.ok
 
 pub returns-in-Ok-clause-err : goal.returns-in-Ok-clause-err
 returns-in-Ok-clause-err g c = λ file kept words.
     let f = c.in-Ok.ensures in
-    err-given c.accepted_resume_due.result c.in-Ok.accepted _ _ c.accepted_resume_due.ensures.given c.accepted_resume_due.ensures.untaken
+    err-given c.accepted_resume_due.result c.in-Ok.accepted _ _ c.accepted_resume_due.ensures.given
+    c.accepted_resume_due.ensures.untaken
     (λ part gives untaken done. part-resume _ file kept words f.0 c.in-Ok.accepted part f.1 f.2 gives untaken done)
     c.accepted_resume_due.ensures.err
 

@@ -7,14 +7,16 @@ use Rattle.nomos_words.specs.Words.{save}
 pub returns-in-Ok-clause-ok : goal.returns-in-Ok-clause-ok
 returns-in-Ok-clause-ok g c = λ file words kept third.
     let f = c.in-Ok.ensures in
-    ok-given c.accepted_save_due.result c.in-Ok.accepted _ _ c.accepted_save_due.ensures.given c.accepted_save_due.ensures.untaken
+    ok-given c.accepted_save_due.result c.in-Ok.accepted _ _ c.accepted_save_due.ensures.given
+    c.accepted_save_due.ensures.untaken
     (λ d gives untaken due. due-save _ file words kept f.0 c.in-Ok.accepted d f.1 f.2 gives untaken due)
     c.accepted_save_due.ensures.ok
 
 pub returns-in-Ok-clause-err : goal.returns-in-Ok-clause-err
 returns-in-Ok-clause-err g c = λ file words kept third.
     let f = c.in-Ok.ensures in
-    err-given c.accepted_save_due.result c.in-Ok.accepted _ _ c.accepted_save_due.ensures.given c.accepted_save_due.ensures.untaken
+    err-given c.accepted_save_due.result c.in-Ok.accepted _ _ c.accepted_save_due.ensures.given
+    c.accepted_save_due.ensures.untaken
     (λ part gives untaken done. part-save _ file words kept f.0 c.in-Ok.accepted part f.1 f.2 gives untaken done)
     c.accepted_save_due.ensures.err
 

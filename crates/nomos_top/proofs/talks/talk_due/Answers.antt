@@ -7,15 +7,19 @@ use Rattle.nomos_words.specs.Words.{talk}
 pub returns-in-Ok-clause-ok : goal.returns-in-Ok-clause-ok
 returns-in-Ok-clause-ok g c = λ file words text_file.
     let f = c.in-Ok.ensures in
-    ok-given c.accepted_talk_due.result c.in-Ok.accepted _ _ c.accepted_talk_due.ensures.given c.accepted_talk_due.ensures.untaken
-    (λ d gives untaken due. due-talk _ file words c.args.party.name.now c.args.party.proc.now text_file f.0 c.in-Ok.accepted d f.1 f.2 gives untaken due)
+    ok-given c.accepted_talk_due.result c.in-Ok.accepted _ _ c.accepted_talk_due.ensures.given
+    c.accepted_talk_due.ensures.untaken
+    (λ d gives untaken due. due-talk _ file words c.args.party.name.now c.args.party.proc.now text_file f.0
+    c.in-Ok.accepted d f.1 f.2 gives untaken due)
     c.accepted_talk_due.ensures.ok
 
 pub returns-in-Ok-clause-err : goal.returns-in-Ok-clause-err
 returns-in-Ok-clause-err g c = λ file words text_file.
     let f = c.in-Ok.ensures in
-    err-given c.accepted_talk_due.result c.in-Ok.accepted _ _ c.accepted_talk_due.ensures.given c.accepted_talk_due.ensures.untaken
-    (λ part gives untaken done. part-talk _ file words c.args.party.name.now c.args.party.proc.now text_file f.0 c.in-Ok.accepted part f.1 f.2 gives untaken done)
+    err-given c.accepted_talk_due.result c.in-Ok.accepted _ _ c.accepted_talk_due.ensures.given
+    c.accepted_talk_due.ensures.untaken
+    (λ part gives untaken done. part-talk _ file words c.args.party.name.now c.args.party.proc.now text_file f.0
+    c.in-Ok.accepted part f.1 f.2 gives untaken done)
     c.accepted_talk_due.ensures.err
 
 pub returns-in-Ok-clause-unread_script : goal.returns-in-Ok-clause-unread_script
@@ -32,11 +36,13 @@ returns-in-Err-clause-ok g c = λ file words text_file.
     (g.S.Source.faults c.judge.new.contract) in
     let f = c.in-Err.ensures in
     if_ok-map c.unaccepted_due.result _ _
-    (λ d out. due-out _ (talk file words c.args.party.name.now c.args.party.proc.now text_file) f.0 (HaveRisen contract.counts) c.in-Err.unaccepted d f.1
+    (λ d out. due-out _ (talk file words c.args.party.name.now c.args.party.proc.now text_file) f.0
+    (HaveRisen contract.counts) c.in-Err.unaccepted d f.1
     (λ rose. (tt, rose)) f.2 out)
     c.unaccepted_due.ensures.ok
 
 pub returns-in-Err-clause-err : goal.returns-in-Err-clause-err
 returns-in-Err-clause-err g c = λ file words text_file.
-    if_err-map c.unaccepted_due.result _ _ (λ part none. part-nothing _ (talk file words c.args.party.name.now c.args.party.proc.now text_file) part none)
+    if_err-map c.unaccepted_due.result _ _ (λ part none. part-nothing _
+    (talk file words c.args.party.name.now c.args.party.proc.now text_file) part none)
     c.unaccepted_due.ensures.err

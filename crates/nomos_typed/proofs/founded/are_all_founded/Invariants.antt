@@ -5,4 +5,5 @@ use Rattle.nomos_typed.proofs.founded.are_all_founded.Given as goal
 
 -- those so far are
 abbrev pub invariant-loop-object : goal.invariant-loop-object
-invariant-loop-object l = All (ObjectFounded (program_of l.told) l.told.types.now l.accounts) (take l.object-index l.objects)
+invariant-loop-object l = All (ObjectFounded (program_of l.told) l.told.types.now l.accounts)
+    (take l.object-index l.objects)

@@ -19,7 +19,8 @@ same_worth-requires c =
     c.in_ok-synced.ensures.answers) in
     subst (λ (l : List (Amount × Amount)). All (λ (p : Amount × Amount). IsAmountOf a.program p.0
     × IsAmountOf a.program p.1) l) (sym c.as_slice.ensures)
-    (stand-amounts a.program c.program-program.ensures.accepted.is_program talk.own talk.shared c.in-Yes.pairs answer.pairs)
+    (stand-amounts a.program c.program-program.ensures.accepted.is_program talk.own talk.shared c.in-Yes.pairs
+    answer.pairs)
 
 pub returns-in-Yes : goal.returns-in-Yes
 returns-in-Yes c =

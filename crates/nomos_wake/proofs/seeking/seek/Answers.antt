@@ -24,7 +24,8 @@ looks-preserved g c =
       sought = clauses.sought ∙ is.sought;
       covers =
           settled-covers accepted c.requires.typed c.looks.awake c.settle.new.self c.in-Some.pid c.waits.result
-          is.covers asleep c.waits.ensures clauses.others clauses.noted clauses.back clauses.followed clauses.own clauses.sought;
+          is.covers asleep c.waits.ensures clauses.others clauses.noted clauses.back clauses.followed clauses.own
+          clauses.sought;
       over = omega (arith, is.over, c.in-Some.ensures.over);
       none =
           none-further accepted c.requires.typed c.looks.awake c.args.after c.looks.from is.none c.settle.new.self

@@ -6,5 +6,6 @@ pub returns-in-Some : goal.returns-in-Some
 returns-in-Some g c =
     let clauses = c.follow.ensures in
     followed-covers c.program-program.ensures.accepted c.requires.typed c.args.pid c.in-Some.name c.args.awake.now
-    c.follow.new.self c.requires.ready (sym c.requires.awaited ∙ c.in-Some.is) c.requires.covers clauses.ready clauses.same
+    c.follow.new.self c.requires.ready (sym c.requires.awaited ∙ c.in-Some.is) c.requires.covers clauses.ready
+    clauses.same
     clauses.followed clauses.sought

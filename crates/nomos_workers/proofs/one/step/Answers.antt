@@ -7,7 +7,8 @@ returns-in_default-clause-ok g c =
     let w = c.args.watched.now.world in
     let ends = rw c.chosen.ensures.world at (c.end_at_rest.ensures (length w.firings) c.args.limit) in
     let both =
-    ends-no_abort c.args.chooser.policy c.args.accepted.now w.state (length w.firings) c.args.limit c.args.chooser.last w
+    ends-no_abort c.args.chooser.policy c.args.accepted.now w.state (length w.firings) c.args.limit c.args.chooser.last
+    w
     c.end_at_rest.result ends
     in
     (c.chosen.ensures.world, both.0, both.1)

@@ -8,19 +8,22 @@ use Rattle.nomos_workers.proofs.work.carry_on.Goals as goal
 pub go_on-turn-requires-clause-history : goal.go_on-turn-requires-clause-history
 go_on-turn-requires-clause-history g c =
     adds-moved c.number-number.result (pass_number (pass_of c.looks.turn)) (history_of c.looks.turn.work)
-    (taken_history c.looks.turn) (history_of c.step-turned.new.self) c.looks.invariant.number (sym c.looks.invariant.fresh)
+    (taken_history c.looks.turn) (history_of c.step-turned.new.self) c.looks.invariant.number
+    (sym c.looks.invariant.fresh)
     c.step-turned.ensures.history
 
 pub returns-in_default-clause-history : goal.returns-in_default-clause-history
 returns-in_default-clause-history g c =
     adds-moved c.number-number.result (pass_number (pass_of c.looks.turn)) (history_of c.looks.turn.work)
-    (taken_history c.looks.turn) (history_of c.step-turned.new.self) c.looks.invariant.number (sym c.looks.invariant.fresh)
+    (taken_history c.looks.turn) (history_of c.step-turned.new.self) c.looks.invariant.number
+    (sym c.looks.invariant.fresh)
     c.step-turned.ensures.history
 
 pub returns-clause-history : goal.returns-clause-history
 returns-clause-history g c =
     adds-moved c.number-number.result (pass_number (pass_of c.looks.turn)) (history_of c.looks.turn.work)
-    (taken_history c.looks.turn) (history_of c.step-turned-2.new.self) c.looks.invariant.number (sym c.looks.invariant.fresh)
+    (taken_history c.looks.turn) (history_of c.step-turned-2.new.self) c.looks.invariant.number
+    (sym c.looks.invariant.fresh)
     c.step-turned-2.ensures.history
 
 pub returns-in_default-clause-seen : goal.returns-in_default-clause-seen

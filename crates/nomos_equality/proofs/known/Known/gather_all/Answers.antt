@@ -25,10 +25,12 @@ returns-in_default-clause-gathered c =
 pub spread-requires-clause-nodes : goal.spread-requires-clause-nodes
 spread-requires-clause-nodes c =
     taken-nodes c.args.program.now c.args.left c.args.right c.args.self.now c.loop.self
-    (record c.loop.self { todo = c.pop.new.self }) c.in-Some.own c.in-Some.other c.loop.invariant c.in-Some.ensures.items
+    (record c.loop.self { todo = c.pop.new.self }) c.in-Some.own c.in-Some.other c.loop.invariant
+    c.in-Some.ensures.items
 
 pub loop-preserved : goal.loop-preserved
 loop-preserved c =
     gathering-goes c.args.program.now c.args.left c.args.right c.args.self.now c.loop.self
-    (record c.loop.self { todo = c.pop.new.self }) c.in-Some.own c.in-Some.other c.loop.invariant c.in-Some.ensures.items
+    (record c.loop.self { todo = c.pop.new.self }) c.in-Some.own c.in-Some.other c.loop.invariant
+    c.in-Some.ensures.items
     c.spread.new.self refl refl c.in_ok-spread.ensures.spreads c.in_ok-spread.ensures.all

@@ -26,7 +26,8 @@ loop-branch-preserved c =
                 follows-wider c.args.program.now c.args.visit
                 (hop.Label (get_or c.choices_of-branches.result.now k d).label) (Classed c.loop-branch.self)
                 (Classed c.follow.new.self)
-                (goes-classed c.args.program.now c.loop-branch.self c.follow.new.self c.in_ok-follow.ensures.goes) (c.loop-branch.invariant.followed k d less)
+                (goes-classed c.args.program.now c.loop-branch.self c.follow.new.self c.in_ok-follow.ensures.goes)
+                (c.loop-branch.invariant.followed k d less)
             | inr more ↦
                 let at : c.loop-branch.branch-index ≡ k = omega arith in
                 let one = get_or_default c.choices_of-branches.result.now c.loop-branch.branch-index

@@ -10,7 +10,8 @@ loop-next-init c =
     record {
       inside = omega arith;
       walk =
-          walk-begins c.args.program.now c.args.left c.args.right c.args.self.now c.meet.new.self c.requires.visits c.requires.classes
+          walk-begins c.args.program.now c.args.left c.args.right c.args.self.now c.meet.new.self c.requires.visits
+          c.requires.classes
           c.in_ok-meet.ensures;
       met =
           (meets-front c.args.program.now c.args.self.now c.meet.new.self c.args.left c.args.right _

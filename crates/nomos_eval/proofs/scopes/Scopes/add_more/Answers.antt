@@ -11,7 +11,8 @@ pub invariant_of-self-2 : goal.invariant_of-self-2
 invariant_of-self-2 c =
     rw
     c.in_ok-push.ensures.items
-    (are-pushed c.self.inside.cells.items (binding.More c.args.v c.args.value c.args.others c.leap_from-leap.result) c.self.invariant
+    (are-pushed c.self.inside.cells.items (binding.More c.args.v c.args.value c.args.others c.leap_from-leap.result)
+    c.self.invariant
     (omega (arith, long c.self.inside.cells.items c.args.self.now c.self.view_is c.self.invariant, c.requires))
     (let P : List (List (VarId × Datum)) → Type 0 = λ l. Leads l c.args.v c.args.others c.leap_from-leap.result in
     subst P (sym c.self.view_is) c.leap_from-leap.ensures))

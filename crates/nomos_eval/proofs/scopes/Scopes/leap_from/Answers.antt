@@ -37,7 +37,8 @@ returns c =
     let behind = λ (v : ℕ). some_at c.self.inside.cells.items c.args.self.now c.self.view_is c.self.invariant v
     c.args.others c.index.result.now c.in-More.field-0 c.in-More.field-1 c.in-More.field-2 c.in-More.first c.requires
     c.index.ensures c.in-More.is in
-    let inside : c.in-More.first.place < length c.args.self.now = omega (arith, leads.there, (behind 0).0, c.requires) in
+    let inside : c.in-More.first.place < length c.args.self.now =
+    omega (arith, leads.there, (behind 0).0, c.requires) in
     let leads2 = leads_at c.self.inside.cells.items c.args.self.now c.self.view_is c.self.invariant
     c.in-More.first.place c.index-2.result.now c.in-More-index.field-0 c.in-More-index.field-1 c.in-More-index.field-2
     c.in-More-index.second inside c.index-2.ensures c.in-More-index.is in

@@ -6,8 +6,14 @@ use Rattle.nomos_floor.proofs.floor.Floor.go_on.Goals as goal
 
 pub exchange-requires : goal.exchange-requires
 exchange-requires g c =
-    let put = c.put_and_count-pass.ensures in
-    (put.of_floor.table, (Some c.args.turn.work, put.holds ∙ ap (λ l. (0, Some c.args.turn.work) ∷ rest l) (sym put.holds)))
+    let put = c.put_and_count-pass.ensures in (
+      put.of_floor.table,
+      (
+        Some c.args.turn.work,
+        put.holds ∙ ap (λ l. (0, Some c.args.turn.work) ∷ rest l)
+            (sym put.holds),
+      ),
+    )
 
 pub returns-clause-of_floor : goal.returns-clause-of_floor
 returns-clause-of_floor g c =

@@ -17,7 +17,8 @@ returns g c =
     let turn = c.requires.of_floor in
     let seat = c.count_new.new.seat in
     let ready = counts_work old.me.0 old.me.1 c.exchange.new.seat.me taken.work g.W.Shared.history turn.served.0
-    taken.pass.number seat.me (c.exchange.ensures.3, turn.holds) turn.served.1 turn.of_floor.number turn.own c.count_new.ensures.counted in
+    taken.pass.number seat.me (c.exchange.ensures.3, turn.holds) turn.served.1 turn.of_floor.number turn.own
+    c.count_new.ensures.counted in
     let kept = counts_kept old.me.0 old.me.1 c.exchange.new.seat.me taken.work g.W.Shared.history seat.me
     (c.exchange.ensures.3, turn.holds) c.count_new.ensures.counted in
     record {

@@ -11,8 +11,10 @@ pub returns : goal.returns
 returns c =
     let least = c.index-2.result.now in
     let fits : FitsSigned w64 least = search rules in
-    let at = subst (λ gs. IsPlaceOf gs c.args.place (Some (c.in_ok-group.group, c.in_ok-group.within))) c.deref-2.ensures.value
+    let at = subst (λ gs. IsPlaceOf gs c.args.place (Some (c.in_ok-group.group, c.in_ok-group.within)))
+    c.deref-2.ensures.value
     c.in_ok-group.ensures in
     ◌∙◌ {A = Option ℤ} (ap Some (to_z-of_z w64 least fits)) (ap (option_map (λ (row : Row). row.least))
-    (slice-at c.self.inside.groups.items c.args.place c.in_ok-group.group c.in_ok-group.within c.index.result.now least at
+    (slice-at c.self.inside.groups.items c.args.place c.in_ok-group.group c.in_ok-group.within c.index.result.now least
+    at
     c.index.ensures c.index-2.ensures ∙ (λ p. slice_get (c.self.view_is p) c.args.place)))

@@ -24,8 +24,13 @@ invariant_of-self c =
     MatchOption-at_some _ _ (place, k) c.in-Some.is c.process_at.ensures in
     let others = λ (p w : ℕ) (other : p ≢ c.args.pid).
     c.bind.ensures.names p w
-    ∙ ap (λ t. cond t (Some c.args.name) (name_in s.contents.channels.now p w)) (other-test c.args.pid p c.args.v.0 w (λ same. other (sym same))) in
-    let has : s.room - 1 ≤ c.bind.new.self.room = omega (arith, c.bind.ensures.room, c.self.invariant.has_room.channels) in
+    ∙ ap (λ t. cond t (Some c.args.name) (name_in s.contents.channels.now p w))
+    (other-test c.args.pid p c.args.v.0 w (λ same. other (sym same))) in
+    let has : s.room - 1 ≤ c.bind.new.self.room = omega (
+      arith,
+      c.bind.ensures.room,
+      c.self.invariant.has_room.channels,
+    ) in
     let spans = bound-spans s.contents.channels.now c.bind.new.self.now c.args.pid c.args.v.0 c.args.name k.span
     c.widened.result (c.bind.ensures.names c.args.pid)
     (spans-kept (held_now s.contents) c.self.invariant.now place c.args.pid (kept.Process k) at.at)
@@ -44,17 +49,24 @@ returns-clause-state c =
     MatchOption-at_some _ _ (place, k) c.in-Some.is c.process_at.ensures in
     let others = λ (p w : ℕ) (other : p ≢ c.args.pid).
     c.bind.ensures.names p w
-    ∙ ap (λ t. cond t (Some c.args.name) (name_in s.contents.channels.now p w)) (other-test c.args.pid p c.args.v.0 w (λ same. other (sym same))) in
-    let has : s.room - 1 ≤ c.bind.new.self.room = omega (arith, c.bind.ensures.room, c.self.invariant.has_room.channels) in
+    ∙ ap (λ t. cond t (Some c.args.name) (name_in s.contents.channels.now p w))
+    (other-test c.args.pid p c.args.v.0 w (λ same. other (sym same))) in
+    let has : s.room - 1 ≤ c.bind.new.self.room = omega (
+      arith,
+      c.bind.ensures.room,
+      c.self.invariant.has_room.channels,
+    ) in
     let after = record s.contents { objects = c.put.new.self; channels = c.bind.new.self } in
     let spans = bound-spans s.contents.channels.now c.bind.new.self.now c.args.pid c.args.v.0 c.args.name k.span
     c.widened.result (c.bind.ensures.names c.args.pid)
     (spans-kept (held_now s.contents) c.self.invariant.now place c.args.pid (kept.Process k) at.at)
     c.widened.ensures.more c.widened.ensures.own in
-    subst (λ (i : Indexed). Becomes i.state c.args.pid (with_channel c.args.v c.args.name) (state_of (held_now after))) c.self.view_is
+    subst (λ (i : Indexed). Becomes i.state c.args.pid (with_channel c.args.v c.args.name) (state_of (held_now after)))
+    c.self.view_is
     (channels-become s c.self.invariant c.args.pid place k at c.put.new.self (Some c.widened.result) c.bind.new.self
     (s.room - 1) c.put.ensures.now c.put.ensures.marked c.put.ensures.room others spans
     (same-names _ _ c.bind.ensures.marked)
     (omega arith) has
     (bind c.args.v c.args.name (channels_of s.contents.channels.now c.args.pid))
-    (with_channel c.args.v c.args.name) (channels-bound s.contents.channels.now c.bind.new.self.now c.args.pid c.args.v c.args.name (c.bind.ensures.names c.args.pid)) refl)
+    (with_channel c.args.v c.args.name) (channels-bound s.contents.channels.now c.bind.new.self.now c.args.pid c.args.v
+    c.args.name (c.bind.ensures.names c.args.pid)) refl)

@@ -48,6 +48,7 @@ returns-clause-ok c =
     bind-ascending c.args.v c.args.x before
     (ascends-kept (held_now s.contents) c.self.invariant.now place c.args.pid k at.at known) in
     let after = record s.contents { values = c.bind_in.new.values } in
-    subst (λ (i : Indexed). Becomes i.state c.args.pid (with_value c.args.v c.args.x) (state_of (held_now after))) c.self.view_is
+    subst (λ (i : Indexed). Becomes i.state c.args.pid (with_value c.args.v c.args.x) (state_of (held_now after)))
+    c.self.view_is
     (values-become s c.self.invariant c.args.pid place k at c.bind_in.new.values row c.in_ok-bind_in.ensures.ok order
     c.bind_in.ensures.marked c.bind_in.ensures.room (with_value c.args.v c.args.x) refl)

@@ -83,7 +83,8 @@ invariant_of-self-2 c =
     slice_set rows place (bound_if change.bound (unbound_if change.used_up (slice_index_or rows place []))) in
     let list_rows = c.change_row.ensures.now ∙ ap turned c.own_row.ensures.now in
     let order : AscendsIf k.ascends row = λ known.
-    bound-ascends change.value (values_at h place) (ascends-kept h c.self.invariant.now place c.args.pid k at.at known) in
+    bound-ascends change.value (values_at h place)
+    (ascends-kept h c.self.invariant.now place c.args.pid k at.at known) in
     let its_marked = c.change_row.ensures.marked ∙ c.own_row.ensures.marked in
     let less : s.room - 2 ≤ s.room = omega arith in
     let as_much : s.contents.objects.room ≤ s.contents.objects.room = omega arith in
@@ -110,7 +111,8 @@ returns-clause-ok c =
     slice_set rows place (bound_if change.bound (unbound_if change.used_up (slice_index_or rows place []))) in
     let list_rows = c.change_row.ensures.now ∙ ap turned c.own_row.ensures.now in
     let order : AscendsIf k.ascends row = λ known.
-    bound-ascends change.value (values_at h place) (ascends-kept h c.self.invariant.now place c.args.pid k at.at known) in
+    bound-ascends change.value (values_at h place)
+    (ascends-kept h c.self.invariant.now place c.args.pid k at.at known) in
     let its_marked = c.change_row.ensures.marked ∙ c.own_row.ensures.marked in
     let less : s.room - 2 ≤ s.room = omega arith in
     let as_much : s.contents.objects.room ≤ s.contents.objects.room = omega arith in
@@ -119,7 +121,8 @@ returns-clause-ok c =
     let has_lists : s.room - 2 ≤ c.change_row.new.lists.room =
     omega (arith, c.own_row.ensures.room, c.change_row.ensures.room, c.self.invariant.has_room.its_lists) in
     let after = record s.contents { values = c.bind_if.new.values; lists = c.change_row.new.lists } in
-    subst (λ (i : Indexed). Becomes i.state c.args.pid (with_list_change change) (state_of (held_now after))) c.self.view_is
+    subst (λ (i : Indexed). Becomes i.state c.args.pid (with_list_change change) (state_of (held_now after)))
+    c.self.view_is
     (rows-become s c.self.invariant c.args.pid place k at s.contents.objects c.bind_if.new.values c.change_row.new.lists
     k.ascends row list_row (s.room - 2) (same_slots s c.self.invariant c.args.pid place k at) c.in_ok-bind_if.ensures.ok
     list_rows order refl c.bind_if.ensures.marked its_marked less as_much has has_lists

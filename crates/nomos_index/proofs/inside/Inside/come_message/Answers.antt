@@ -23,7 +23,8 @@ invariant_of-self c =
     let list_rows = c.push-3.ensures.now
     ∙ ap (λ (row : ListRow). s.contents.lists.now ++ row ∷ []) c.new.ensures.items in
     message-indexed s c.self.invariant m.number k c.in_ok-brings.row.items c.push.new.self c.push-2.new.self
-    c.push-3.new.self c.push.ensures.marked c.push-2.ensures.marked c.push-3.ensures.marked next c.in_ok-brings.ensures.row
+    c.push-3.new.self c.push.ensures.marked c.push-2.ensures.marked c.push-3.ensures.marked next
+    c.in_ok-brings.ensures.row
     c.push.ensures.now c.push-2.ensures.now list_rows
     (record {
       objects = omega (arith, c.push.ensures.room, c.self.invariant.has_room.objects);
@@ -49,7 +50,8 @@ returns-clause-ok c =
     ∙ ap (λ (row : ListRow). s.contents.lists.now ++ row ∷ []) c.new.ensures.items in
     let payload = c.in_ok-brings.ensures.payload in
     message-state s c.self.invariant m.number k c.in_ok-brings.row.items c.push.new.self c.push-2.new.self
-    c.push-3.new.self c.push.ensures.marked c.push-2.ensures.marked c.push-3.ensures.marked next c.in_ok-brings.ensures.row
+    c.push-3.new.self c.push.ensures.marked c.push-2.ensures.marked c.push-3.ensures.marked next
+    c.in_ok-brings.ensures.row
     c.push.ensures.now c.push-2.ensures.now list_rows m
     (ap (λ (brought : Payload). object.Message (record m { payload = brought })) payload)
     ∙ ap (λ (i : Indexed). with_object (object.Message m) i.state) c.self.view_is

@@ -33,16 +33,25 @@ invariant_of-self-2 c =
     c.deref.ensures.value in
     let next = c.requires.number ∙ sym (ap (λ (i : Indexed). i.state.next_object) c.self.view_is) in
     let has : s.room ≤ c.bind_pairs.new.channels.room =
-    omega (arith, c.in_ok-reserve_names.ensures.ok, c.bind_pairs.ensures.room, c.len-count.ensures, ap length c.deref.ensures.value) in
+    omega (
+      arith,
+      c.in_ok-reserve_names.ensures.ok,
+      c.bind_pairs.ensures.room,
+      c.len-count.ensures,
+      ap length c.deref.ensures.value,
+    ) in
     let spans = λ (w : ℕ) (some : IsSome (bound_to w born.channels.items)).
     c.span_of.ensures w
     (subst (λ (ps : List (VarId × ℕ)). IsSome (bound_to w ps)) (sym c.deref-3.ensures.value) some) in
     let order : AscendsIf c.is_map-ascends.result born.values.items = λ known. map-ascends born.values.items
     (subst (λ (ps : ValueRow). bindings_of ps ≡ ps) c.deref-2.ensures.value (c.is_map-ascends.ensures known)) in
-    born-indexed s c.self.invariant born c.of-kept.result c.span_of.result c.is_map-ascends.result c.push.new.self c.push-2.new.self
+    born-indexed s c.self.invariant born c.of-kept.result c.span_of.result c.is_map-ascends.result c.push.new.self
+    c.push-2.new.self
     c.push-3.new.self
-    c.reserve_names.new.channels c.bind_pairs.new.channels c.reserve_names.ensures.names come c.reserve_names.ensures.marked
-    c.bind_pairs.ensures.marked c.push.ensures.marked c.push-2.ensures.marked c.push-3.ensures.marked next c.of-kept.ensures
+    c.reserve_names.new.channels c.bind_pairs.new.channels c.reserve_names.ensures.names come
+    c.reserve_names.ensures.marked
+    c.bind_pairs.ensures.marked c.push.ensures.marked c.push-2.ensures.marked c.push-3.ensures.marked next
+    c.of-kept.ensures
     c.push.ensures.now c.push-2.ensures.now c.push-3.ensures.now spans order
     (record {
       objects = omega (arith, c.push.ensures.room, c.self.invariant.has_room.objects);
@@ -66,10 +75,13 @@ returns-clause-ok c =
     (subst (λ (ps : List (VarId × ℕ)). IsSome (bound_to w ps)) (sym c.deref-3.ensures.value) some) in
     let order : AscendsIf c.is_map-ascends.result born.values.items = λ known. map-ascends born.values.items
     (subst (λ (ps : ValueRow). bindings_of ps ≡ ps) c.deref-2.ensures.value (c.is_map-ascends.ensures known)) in
-    born-state s c.self.invariant born c.of-kept.result c.span_of.result c.is_map-ascends.result c.push.new.self c.push-2.new.self
+    born-state s c.self.invariant born c.of-kept.result c.span_of.result c.is_map-ascends.result c.push.new.self
+    c.push-2.new.self
     c.push-3.new.self
-    c.reserve_names.new.channels c.bind_pairs.new.channels c.reserve_names.ensures.names come c.reserve_names.ensures.marked
-    c.bind_pairs.ensures.marked c.push.ensures.marked c.push-2.ensures.marked c.push-3.ensures.marked next c.of-kept.ensures
+    c.reserve_names.new.channels c.bind_pairs.new.channels c.reserve_names.ensures.names come
+    c.reserve_names.ensures.marked
+    c.bind_pairs.ensures.marked c.push.ensures.marked c.push-2.ensures.marked c.push-3.ensures.marked next
+    c.of-kept.ensures
     c.push.ensures.now c.push-2.ensures.now c.push-3.ensures.now spans order
     ∙ ap (λ (i : Indexed). with_object (object.Process (process_born born)) i.state) c.self.view_is
 
@@ -87,9 +99,12 @@ returns-clause-marked c =
     (subst (λ (ps : List (VarId × ℕ)). IsSome (bound_to w ps)) (sym c.deref-3.ensures.value) some) in
     let order : AscendsIf c.is_map-ascends.result born.values.items = λ known. map-ascends born.values.items
     (subst (λ (ps : ValueRow). bindings_of ps ≡ ps) c.deref-2.ensures.value (c.is_map-ascends.ensures known)) in
-    born-marks s c.self.invariant born c.of-kept.result c.span_of.result c.is_map-ascends.result c.push.new.self c.push-2.new.self
+    born-marks s c.self.invariant born c.of-kept.result c.span_of.result c.is_map-ascends.result c.push.new.self
+    c.push-2.new.self
     c.push-3.new.self
-    c.reserve_names.new.channels c.bind_pairs.new.channels c.reserve_names.ensures.names come c.reserve_names.ensures.marked
-    c.bind_pairs.ensures.marked c.push.ensures.marked c.push-2.ensures.marked c.push-3.ensures.marked next c.of-kept.ensures
+    c.reserve_names.new.channels c.bind_pairs.new.channels c.reserve_names.ensures.names come
+    c.reserve_names.ensures.marked
+    c.bind_pairs.ensures.marked c.push.ensures.marked c.push-2.ensures.marked c.push-3.ensures.marked next
+    c.of-kept.ensures
     c.push.ensures.now c.push-2.ensures.now c.push-3.ensures.now spans order
     ∙ ap (λ (i : Indexed). i.marked) c.self.view_is

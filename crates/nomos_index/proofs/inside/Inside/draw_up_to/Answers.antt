@@ -11,4 +11,5 @@ invariant_of-self c =
 
 pub returns-clause-state : goal.returns-clause-state
 returns-clause-state c =
-    ap (λ (i : Indexed). record i.state { next_object = c.args.next_object; next_name = c.args.next_name }) c.self.view_is
+    ap (λ (i : Indexed). record i.state { next_object = c.args.next_object; next_name = c.args.next_name })
+    c.self.view_is

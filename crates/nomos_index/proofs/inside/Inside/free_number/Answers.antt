@@ -17,4 +17,5 @@ returns-clause-free c =
     let contents = c.self.inside.contents in
     let h = held_now contents in
     subst (λ (i : Indexed). object_at i.state.objects contents.numbers.next_object ≡ None) c.self.view_is
-    (number-missed h contents.numbers.next_object (apart-below _ contents.numbers.next_object c.self.invariant.now.below))
+    (number-missed h contents.numbers.next_object (apart-below _ contents.numbers.next_object
+    c.self.invariant.now.below))

@@ -7,5 +7,6 @@ use Rattle.nomos_index.proofs.inside.Inside.next_owned.Goals as goal
 pub returns : goal.returns
 returns c =
     subst
-    (λ (i : Indexed). FindsNext (IsLinearName c.args.accepted.now.program i.state.types) c.args.after c.next_owned.result)
+    (λ (i : Indexed). FindsNext (IsLinearName c.args.accepted.now.program i.state.types) c.args.after
+    c.next_owned.result)
     c.self.view_is c.next_owned.ensures

@@ -24,7 +24,8 @@ returns-clause-state c =
     let at : ProcessIsAt (held_now s.contents) c.args.pid place k =
     MatchOption-at_some _ _ (place, k) c.in-Some.is c.process_at.ensures in
     let after = record s.contents { lists = c.replace-before.new.self } in
-    subst (λ (i : Indexed). Becomes i.state c.args.pid (with_lists c.args.lists.items) (state_of (held_now after))) c.self.view_is
+    subst (λ (i : Indexed). Becomes i.state c.args.pid (with_lists c.args.lists.items) (state_of (held_now after)))
+    c.self.view_is
     (lists-become s c.self.invariant c.args.pid place k at c.replace-before.new.self c.args.lists.items
     c.replace-before.ensures.now c.replace-before.ensures.marked c.replace-before.ensures.room
     (with_lists c.args.lists.items) refl)

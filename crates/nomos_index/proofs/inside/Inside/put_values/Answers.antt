@@ -54,7 +54,8 @@ returns-clause-state c =
     omega (arith, c.replace-before.ensures.room, c.self.invariant.has_room.values) in
     let has_lists : s.room - 1 ≤ s.contents.lists.room = omega (arith, c.self.invariant.has_room.its_lists) in
     let after = record s.contents { objects = c.keep_order.new.objects; values = c.replace-before.new.self } in
-    subst (λ (i : Indexed). Becomes i.state c.args.pid (with_values c.args.values.items) (state_of (held_now after))) c.self.view_is
+    subst (λ (i : Indexed). Becomes i.state c.args.pid (with_values c.args.values.items) (state_of (held_now after)))
+    c.self.view_is
     (rows-become s c.self.invariant c.args.pid place k at c.keep_order.new.objects c.replace-before.new.self
     s.contents.lists ascends c.args.values.items (lists_at (held_now s.contents) place) (s.room - 1)
     c.keep_order.ensures.now c.replace-before.ensures.now (same_lists s c.self.invariant c.args.pid place k at) order

@@ -86,7 +86,8 @@ returns-clause-ok c =
     c.span_of-span.ensures w
     (subst (λ (ps : List (VarId × ℕ)). IsSome (bound_to w ps)) (sym c.deref-2.ensures.value) some) in
     let after = record s.contents { objects = c.put.new.self; channels = c.bind_pairs.new.channels } in
-    subst (λ (i : Indexed). Becomes i.state c.args.pid (with_channels c.args.channels.items) (state_of (held_now after))) c.self.view_is
+    subst (λ (i : Indexed). Becomes i.state c.args.pid (with_channels c.args.channels.items)
+    (state_of (held_now after))) c.self.view_is
     (replaced-become s c.args.pid c.args.channels.items c.reserve_names.new.channels c.drop_span.new.channels
     c.bind_pairs.new.channels c.reserve_names.ensures.names c.drop_span.ensures.names come
     c.reserve_names.ensures.marked c.drop_span.ensures.marked c.bind_pairs.ensures.marked c.put.new.self

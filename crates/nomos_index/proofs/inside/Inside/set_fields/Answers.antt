@@ -29,10 +29,12 @@ returns-clause-state c =
     MatchOption-at_some _ _ (place, k) c.in-Some.is c.process_at.ensures in
     let next = c.of-next.result in
     let after = record s.contents { objects = c.put.new.self } in
-    subst (λ (i : Indexed). Becomes i.state c.args.fields.pid (with_fields c.args.fields) (state_of (held_now after))) c.self.view_is
+    subst (λ (i : Indexed). Becomes i.state c.args.fields.pid (with_fields c.args.fields) (state_of (held_now after)))
+    c.self.view_is
     (fields-become s c.self.invariant c.args.fields.pid place k at c.put.new.self next c.put.ensures.now
     (ap (λ (n : KeptProcess). n.span) c.of-next.ensures) (ap (λ (n : KeptProcess). n.ascends) c.of-next.ensures)
     c.put.ensures.marked c.put.ensures.room
     (with_fields c.args.fields)
-    (ap (λ (n : KeptProcess). process_held s.contents.channels.now c.args.fields.pid (values_at (held_now s.contents) place)
+    (ap (λ (n : KeptProcess). process_held s.contents.channels.now c.args.fields.pid
+    (values_at (held_now s.contents) place)
     (lists_at (held_now s.contents) place) n) (sym c.of-next.ensures)))

@@ -22,8 +22,13 @@ invariant_of-self c =
     MatchOption-at_some _ _ (place, k) c.in-Some.is c.process_at.ensures in
     let others = λ (p w : ℕ) (other : p ≢ c.args.pid).
     c.unbind.ensures.names p w
-    ∙ ap (λ t. cond t None (name_in s.contents.channels.now p w)) (other-test c.args.pid p c.args.v.0 w (λ same. other (sym same))) in
-    let has : s.room ≤ c.unbind.new.self.room = omega (arith, c.unbind.ensures.room, c.self.invariant.has_room.channels) in
+    ∙ ap (λ t. cond t None (name_in s.contents.channels.now p w))
+    (other-test c.args.pid p c.args.v.0 w (λ same. other (sym same))) in
+    let has : s.room ≤ c.unbind.new.self.room = omega (
+      arith,
+      c.unbind.ensures.room,
+      c.self.invariant.has_room.channels,
+    ) in
     fewer-indexed s c.self.invariant c.args.pid place k at c.unbind.new.self (s.room) others
     (unbound-fewer s.contents.channels.now c.unbind.new.self.now c.args.pid c.args.v.0
     (c.unbind.ensures.names c.args.pid))
@@ -39,14 +44,21 @@ returns-clause-state c =
     MatchOption-at_some _ _ (place, k) c.in-Some.is c.process_at.ensures in
     let others = λ (p w : ℕ) (other : p ≢ c.args.pid).
     c.unbind.ensures.names p w
-    ∙ ap (λ t. cond t None (name_in s.contents.channels.now p w)) (other-test c.args.pid p c.args.v.0 w (λ same. other (sym same))) in
-    let has : s.room ≤ c.unbind.new.self.room = omega (arith, c.unbind.ensures.room, c.self.invariant.has_room.channels) in
+    ∙ ap (λ t. cond t None (name_in s.contents.channels.now p w))
+    (other-test c.args.pid p c.args.v.0 w (λ same. other (sym same))) in
+    let has : s.room ≤ c.unbind.new.self.room = omega (
+      arith,
+      c.unbind.ensures.room,
+      c.self.invariant.has_room.channels,
+    ) in
     let after = record s.contents { channels = c.unbind.new.self } in
-    subst (λ (i : Indexed). Becomes i.state c.args.pid (without_channel c.args.v) (state_of (held_now after))) c.self.view_is
+    subst (λ (i : Indexed). Becomes i.state c.args.pid (without_channel c.args.v) (state_of (held_now after)))
+    c.self.view_is
     (fewer-become s c.self.invariant c.args.pid place k at c.unbind.new.self (s.room) others
     (unbound-fewer s.contents.channels.now c.unbind.new.self.now c.args.pid c.args.v.0
     (c.unbind.ensures.names c.args.pid))
     (same-names _ _ c.unbind.ensures.marked)
     (omega arith) has
     (unbind c.args.v.0 (channels_of s.contents.channels.now c.args.pid))
-    (without_channel c.args.v) (channels-unbound s.contents.channels.now c.unbind.new.self.now c.args.pid c.args.v (c.unbind.ensures.names c.args.pid)) refl)
+    (without_channel c.args.v) (channels-unbound s.contents.channels.now c.unbind.new.self.now c.args.pid c.args.v
+    (c.unbind.ensures.names c.args.pid)) refl)

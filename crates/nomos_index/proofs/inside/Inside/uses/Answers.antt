@@ -20,7 +20,8 @@ returns-in-Some-default-Process c did =
     let at = subst (λ (k : Kept). ObjectIsAt h c.args.number step.field-0-0 k) step.field-0-1-is there in
     subst (λ (i : Indexed). DoesAt used i.state.objects c.args.number c.args.name) c.self.view_is
     (bound-does (state_of h).objects c.args.number c.args.name c.args.variable
-    (process_held h.cells c.args.number (values_at h step.field-0-0) (lists_at h step.field-0-0) step.field-0-1-0) at.found
+    (process_held h.cells c.args.number (values_at h step.field-0-0) (lists_at h step.field-0-0) step.field-0-1-0)
+    at.found
     (c.has_name.ensures did
     (process_held h.cells c.args.number (values_at h step.field-0-0) (lists_at h step.field-0-0) step.field-0-1-0)
     (sym (ap (λ (i : Indexed). process_at i.state c.args.number) c.self.view_is)

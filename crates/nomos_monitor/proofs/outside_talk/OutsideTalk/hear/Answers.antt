@@ -11,7 +11,8 @@ hear-requires-clause-hearable g c =
 pub invariant_of-self : goal.invariant_of-self
 invariant_of-self g c = record {
   talk =
-      answer-talk c.program-program.ensures.accepted (g.M.Sight.state c.self.inside.running.machine) (g.M.Sight.state c.hear.new.self.machine)
+      answer-talk c.program-program.ensures.accepted (g.M.Sight.state c.self.inside.running.machine)
+      (g.M.Sight.state c.hear.new.self.machine)
       c.self.inside.account c.hear.result c.hear.ensures.ok c.hear.ensures.err
       c.self.invariant.talk;
   watched = c.hear.ensures.watched;
@@ -21,7 +22,8 @@ invariant_of-self g c = record {
 pub returns-clause-ends : goal.returns-clause-ends
 returns-clause-ends g c =
     rw (← c.self.view_is)
-    (answer-ends c.program-program.ensures.accepted (g.M.Sight.state c.self.inside.running.machine) (g.M.Sight.state c.hear.new.self.machine)
+    (answer-ends c.program-program.ensures.accepted (g.M.Sight.state c.self.inside.running.machine)
+    (g.M.Sight.state c.hear.new.self.machine)
     c.self.inside.account c.hear.result c.hear.ensures.ok c.self.invariant.talk)
 
 pub returns-clause-only : goal.returns-clause-only

@@ -43,7 +43,8 @@ invariant_of-self-2 c =
     (ap (λ (u : State). process_at u pid) c.in_ok-come_process.ensures.ok
     ∙ process-come c.self.inside.inside.state pid p own c.free_number-pid.ensures.free)
     in
-    let moves = moves-both t.tallies between after nothing (channels_used p) nothing (fields_seen c.args.born.fields) nothing
+    let moves = moves-both t.tallies between after nothing (channels_used p) nothing (fields_seen c.args.born.fields)
+    nothing
     (λ d. names_of d (object.Process p)) channels c.count_fields.ensures
     (λ d name. omega (arith, process-counted p c.args.born.fields refl refl d name))
     in

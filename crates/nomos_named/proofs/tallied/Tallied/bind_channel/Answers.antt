@@ -22,10 +22,13 @@ invariant_of-self c =
     let after = c.exchange.new.self in
     record {
       now =
-          becomes-tallied t.tallies after s c.bind_channel.new.self.state c.args.pid p (with_channel c.args.v c.args.name)
+          becomes-tallied t.tallies after s c.bind_channel.new.self.state c.args.pid p
+          (with_channel c.args.v c.args.name)
           (only doing.Uses (option_to_list (bound_to c.args.v.0 p.channels))) (only doing.Uses (c.args.name ∷ []))
-          c.self.invariant.now there c.bind_channel.ensures.state (binding-exchanges p c.args.v c.args.name (c.bound-before.ensures.order p there))
-          (subst (λ (o : Option ℕ). Moves t.tallies after (only doing.Uses (option_to_list o)) (only doing.Uses (c.args.name ∷ [])))
+          c.self.invariant.now there c.bind_channel.ensures.state
+          (binding-exchanges p c.args.v c.args.name (c.bound-before.ensures.order p there))
+          (subst (λ (o : Option ℕ). Moves t.tallies after (only doing.Uses (option_to_list o))
+          (only doing.Uses (c.args.name ∷ [])))
           bound c.exchange.ensures);
       marked =
           marked-kept t.was_exact t.was_lost _ _ _ _ c.self.invariant.marked c.exchange.ensures.marked

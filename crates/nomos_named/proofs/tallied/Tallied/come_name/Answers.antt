@@ -7,7 +7,8 @@ invariant_of-self c =
     let came = c.come.ensures in
     record {
       now =
-          named-tallied t.tallies c.come.new.self t.inside.state c.come_name.new.self.state c.args.t c.fresh_name-name.result
+          named-tallied t.tallies c.come.new.self t.inside.state c.come_name.new.self.state c.args.t
+          c.fresh_name-name.result
           c.self.invariant.now c.come_name.ensures.state c.fresh_name-name.ensures came.order came.above came.exact
           came.counts came.suspects came.suspect;
       marked =

@@ -12,7 +12,8 @@ invariant_of-self c =
     let seen = seen-there seen_process (process_at s c.args.pid) c.in-Some.field-0 c.in-Some.ensures in
     record {
       now =
-          carries-tallied t.tallies s c.put_lists.new.self.state c.args.pid seen.0 (with_lists c.args.lists.items) c.self.invariant.now seen.1
+          carries-tallied t.tallies s c.put_lists.new.self.state c.args.pid seen.0 (with_lists c.args.lists.items)
+          c.self.invariant.now seen.1
           c.put_lists.ensures.state refl refl refl;
       marked =
           marked-kept t.was_exact t.was_lost _ _ _ _ c.self.invariant.marked refl c.put_lists.ensures.marked;

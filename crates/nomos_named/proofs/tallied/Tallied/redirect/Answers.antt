@@ -31,7 +31,8 @@ invariant_of-self-in-One c =
     let number = c.in-One.by.object in
     let (one, does) = c.in-One.ensures in
     let once = ap (λ (i : Indexed). times (names_of doing.Uses) i.state.objects old) c.self.view_is ∙ one in
-    let does_here = subst (λ (i : Indexed). DoesAt (names_of doing.Uses) i.state.objects number old) (sym c.self.view_is) does
+    let does_here = subst (λ (i : Indexed). DoesAt (names_of doing.Uses) i.state.objects number old)
+    (sym c.self.view_is) does
     in
     let is = c.rename_outside-in-One.ensures.state
     ∙ ap (λ (u : State). record u { outside = map (renamed old new) u.outside }) c.redirect_once.ensures.state

@@ -12,12 +12,14 @@ invariant_of-self c =
     let out = c.uncount_channels.ensures seen.0 seen.1 in
     let outcome = c.replace_channels-outcome in
     let channels = c.args.channels.items in
-    let stands = replaced-there s outcome.new.self.state c.args.pid seen.0 channels seen.1 outcome.result outcome.ensures.ok
+    let stands = replaced-there s outcome.new.self.state c.args.pid seen.0 channels seen.1 outcome.result
+    outcome.ensures.ok
     outcome.ensures.err
     in
     record {
       now =
-          replaced-tallied s outcome.new.self.state c.args.pid seen.0 channels seen.1 t.tallies c.uncount_channels.new.tallies
+          replaced-tallied s outcome.new.self.state c.args.pid seen.0 channels seen.1 t.tallies
+          c.uncount_channels.new.tallies
           c.count_channels.new.tallies c.self.invariant.now out outcome.result outcome.ensures.ok outcome.ensures.err
           c.count_channels.ensures;
       marked =

@@ -11,7 +11,8 @@ invariant_of-self-else-self c =
     let tallies = t.tallies in
     record {
       now =
-          subst (λ (u : Suspicion). SayRight tallies.exact u tallies.names.now c.tidy.new.self.state) (sym c.clear.ensures)
+          subst (λ (u : Suspicion). SayRight tallies.exact u tallies.names.now c.tidy.new.self.state)
+          (sym c.clear.ensures)
           (tidied-tallied tallies.exact tallies.suspects tallies.names.now t.inside.state c.tidy.new.self.state
           c.self.invariant.now c.tidy.ensures.state);
       marked =

@@ -11,7 +11,8 @@ returns-clause-state c p there =
     let new = c.bind_channel.new.self in
     becomes-taken (state_of c.args.self.now) (state_of c.take.new.self) (state_of c.put.new.self) c.args.pid new.pid
     (object.Process (process_in new)) c.in-Some.ensures.state c.put.ensures.state
-    (c.bind_channel.ensures.pid ∙ c.in-Some.ensures.pid) (with_channel c.args.v c.args.name) (process_in c.in-Some.process) p (process_in new)
+    (c.bind_channel.ensures.pid ∙ c.in-Some.ensures.pid) (with_channel c.args.v c.args.name)
+    (process_in c.in-Some.process) p (process_in new)
     (c.in-Some.ensures.found p there) c.bind_channel.ensures.state refl
 
 pub bind_channel-requires : goal.bind_channel-requires

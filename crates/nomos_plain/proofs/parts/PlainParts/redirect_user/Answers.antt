@@ -39,7 +39,8 @@ returns-in-Some-place_of-clause-sound c =
             c.requires.room.each;
       };
       order = placed_in_order number at c.args.self.now.next_object items found c.requires.order
-          c.use_instead.new.self d (ap object_number changed ∙ uses-numbered c.args.old c.args.new (object_in (slice_index_or items at d))
+          c.use_instead.new.self d (ap object_number changed ∙ uses-numbered c.args.old c.args.new
+          (object_in (slice_index_or items at d))
           ∙ place_number number at items found d);
     }
 

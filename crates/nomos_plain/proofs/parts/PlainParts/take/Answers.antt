@@ -64,7 +64,8 @@ returns-in-Message-clause-sound c =
     let taken = c.replace.new.dest in
     let back = plain.Message c.in-Message.message in
     let found : position (has_number c.args.pid) items ≡ Some at = search rules in
-    let is : object_in taken ≡ object.Message (hole c.args.pid) = ap object_in c.replace.ensures.after ∙ c.hole.ensures in
+    let is : object_in taken ≡ object.Message (hole c.args.pid) = ap object_in c.replace.ensures.after
+    ∙ c.hole.ensures in
     let was : slice_index_or items at d ≡ back = search rules in
     let numbered : object_number (object_in back) ≡ c.args.pid =
     ap (λ (o : PlainObject). object_number (object_in o)) (sym was) ∙ place_number c.args.pid at items found d in

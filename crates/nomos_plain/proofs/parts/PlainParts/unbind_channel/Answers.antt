@@ -10,7 +10,8 @@ returns-clause-state c p there =
     let new = c.unbind_channel.new.self in
     becomes-taken (state_of c.args.self.now) (state_of c.take.new.self) (state_of c.put.new.self) c.args.pid new.pid
     (object.Process (process_in new)) c.in-Some.ensures.state c.put.ensures.state
-    (c.unbind_channel.ensures.pid ∙ c.in-Some.ensures.pid) (without_channel c.args.v) (process_in c.in-Some.process) p (process_in new)
+    (c.unbind_channel.ensures.pid ∙ c.in-Some.ensures.pid) (without_channel c.args.v) (process_in c.in-Some.process) p
+    (process_in new)
     (c.in-Some.ensures.found p there) c.unbind_channel.ensures.state refl
 
 pub put-requires-clause-channels : goal.put-requires-clause-channels

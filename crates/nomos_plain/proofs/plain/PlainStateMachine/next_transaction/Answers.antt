@@ -8,6 +8,8 @@ use Rattle.nomos_plain.proofs.plain.PlainStateMachine.next_transaction.Goals as 
 
 pub returns : goal.returns
 returns c =
-    subst (λ (s : Plain). FindsNext (IsTransaction s.state.objects) c.args.after c.next_transaction.result) c.self.view_is
-    (subst (λ (objects : List PlainObject). FindsNext (IsTransaction (map object_in objects)) c.args.after c.next_transaction.result)
+    subst (λ (s : Plain). FindsNext (IsTransaction s.state.objects) c.args.after c.next_transaction.result)
+    c.self.view_is
+    (subst (λ (objects : List PlainObject). FindsNext (IsTransaction (map object_in objects)) c.args.after
+    c.next_transaction.result)
     c.deref.ensures.value c.next_transaction.ensures)

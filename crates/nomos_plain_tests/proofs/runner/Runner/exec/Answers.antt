@@ -22,6 +22,7 @@ invariant_of-self-2 g c =
           (g.M.Sight.state c.start.new.self)
           (can-start c.self.inside.accepted (g.M.Sight.state c.self.inside.machine) c.in-Some.f.0 c.args.payer
           c.bound.result c.in-Some-balance.dths c.empty-nothing.result nothing c.in-Some.ensures.number
-          c.in-Some.ensures.takes c.bound.ensures (sym c.in-Some-balance.ensures) (omega arith)) c.in_ok-pid.ensures.ok.1,
+          c.in-Some.ensures.takes c.bound.ensures (sym c.in-Some-balance.ensures) (omega arith))
+          c.in_ok-pid.ensures.ok.1,
       c.start.ensures.marked ∙ c.self.invariant.1,
     )

@@ -4,8 +4,11 @@ use Rattle.nomos_replay.proofs.ReadingLemmas.{small-unit}
 use Rattle.nomos_replay.proofs.source.Source.next_line.Goals as goal
 
 pub returns-in-None-clause-err : goal.returns-in-None-clause-err
-returns-in-None-clause-err c =
-    (refl, λ l left begins. some-line c.args.accepted.now.annotations.unit c.args.self.now.lines l left begins c.in-None.ensures.0)
+returns-in-None-clause-err c = (
+  refl,
+  λ l left begins. some-line c.args.accepted.now.annotations.unit c.args.self.now.lines l left begins
+      c.in-None.ensures.0,
+)
 
 pub returns-in-Some-Cut-clause-err : goal.returns-in-Some-Cut-clause-err
 returns-in-Some-Cut-clause-err c =
@@ -18,5 +21,6 @@ returns-in-None-2-clause-err c =
     let apart = rw c.in-Some-Whole.field-0-is at c.in-Some-Whole.ensures in
     let none = rw (c.in-None-2.is, c.unit.ensures) at c.in_ok-line-in-Some-Whole.ensures in (
       refl,
-      whole-none a.annotations.unit (small-unit c.program-program.ensures.accepted) c.args.self.now.lines _ _ apart none,
+      whole-none a.annotations.unit (small-unit c.program-program.ensures.accepted) c.args.self.now.lines _ _ apart
+          none,
     )

@@ -35,7 +35,8 @@ invariant_of-self c =
       seats = omega (arith, is.seats, c.rename_in.ensures.seats);
       fits = omega (arith, is.fits);
       marked =
-          subst (λ o. IfSome o (IsMarkedTable (record s { cells = c.rename_in.new.cells }))) (sym c.rename_in.ensures.marked)
+          subst (λ o. IfSome o (IsMarkedTable (record s { cells = c.rename_in.new.cells })))
+          (sym c.rename_in.ensures.marked)
           (marked-same s (record s { cells = c.rename_in.new.cells }) s.cells.marked refl refl len is.marked);
     }
 
@@ -43,7 +44,8 @@ pub returns-clause-names : goal.returns-clause-names
 returns-clause-names c p v =
     let cells = c.self.inside.cells.now in
     let told : Marking Cell → Option ℕ = λ m.
-    cond (eqb c.args.process p) (option_map (instead_of c.args.old c.args.new) (name_in m.now p v)) (name_in m.now p v) in
+    cond (eqb c.args.process p) (option_map (instead_of c.args.old c.args.new) (name_in m.now p v))
+    (name_in m.now p v) in
     ap (λ (cs : List Cell). name_in cs p v) c.rename_in.ensures.now
     ∙ names-renamed c.args.process c.args.old c.args.new cells p v
     ∙ ap told c.self.view_is

@@ -15,7 +15,8 @@ invariant_of-self g c =
     let l : at < length es = omega (arith, v, c.requires.within, length-map es (λ (e : Entry _). e.item)) in
     let late = subst (λ (m : Marking _). HasMarkedWithin at m.marked) (sym c.self.view_is) c.requires.late in
     IsSound_again es s.log.items s.marked at _ c.self.invariant
-    (not_kept_past es s.log.items s.marked at c.self.invariant (mark_len_fits es s.log.items s.marked at c.self.invariant late)) l
+    (not_kept_past es s.log.items s.marked at c.self.invariant
+    (mark_len_fits es s.log.items s.marked at c.self.invariant late)) l
 
 pub returns-clause-now : goal.returns-clause-now
 returns-clause-now g c =

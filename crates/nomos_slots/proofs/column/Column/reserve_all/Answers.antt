@@ -7,7 +7,8 @@ use Rattle.nomos_slots.proofs.column.Column.reserve_all.Goals as goal
 pub returns-clause-ok : goal.returns-clause-ok
 returns-clause-ok g c =
     let s = c.self.inside in
-    let few : length s.log.items ≤ length s.items.items = log-within s.items.items s.log.items s.marked c.self.invariant in
+    let few : length s.log.items ≤ length s.items.items = log-within s.items.items s.log.items s.marked
+    c.self.invariant in
     let same = length-map c.reserve.new.self.items (λ (e : Entry _). e.item) in
     let kept = s.items.ok.0 in
     let logs = s.log.ok.0 in

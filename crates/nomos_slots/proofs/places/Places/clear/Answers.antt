@@ -11,6 +11,8 @@ put-requires-clause-place c =
 pub returns-clause-set : goal.returns-clause-set
 returns-clause-set c =
     let seen = ap (λ s. length s.set) c.self.view_is in
-    let within : c.args.place < c.self.inside.len = omega (arith, seen, length-set_below (ground c.self.inside.levels) c.self.inside.len) in
-    set_below-put c.args.place false (ground c.self.inside.levels) (ground c.put.new.levels) c.self.inside.len within c.put.ensures.put
+    let within : c.args.place < c.self.inside.len =
+    omega (arith, seen, length-set_below (ground c.self.inside.levels) c.self.inside.len) in
+    set_below-put c.args.place false (ground c.self.inside.levels) (ground c.put.new.levels) c.self.inside.len within
+    c.put.ensures.put
     ∙ ap (λ s. set s.set c.args.place false) c.self.view_is

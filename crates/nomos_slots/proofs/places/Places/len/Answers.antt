@@ -4,4 +4,5 @@ use Rattle.nomos_slots.proofs.PlacesLemmas.{length-set_below}
 use Rattle.nomos_slots.proofs.places.Places.len.Goals as goal
 
 pub returns : goal.returns
-returns c = sym (ap (λ s. length s.set) (sym c.self.view_is) ∙ length-set_below (ground c.self.inside.levels) c.self.inside.len)
+returns c = sym (ap (λ s. length s.set) (sym c.self.view_is) ∙ length-set_below (ground c.self.inside.levels)
+    c.self.inside.len)

@@ -7,4 +7,5 @@ use Rattle.nomos_slots.proofs.places.Places.lowest_from.Goals as goal
 pub returns : goal.returns
 returns c =
     subst (λ s. IsLowestSet s.set c.args.place c.lowest_in.result) c.self.view_is
-    (lowest-seen (ground c.self.inside.levels) c.self.inside.len c.args.place c.lowest_in.result c.self.invariant.past c.lowest_in.ensures)
+    (lowest-seen (ground c.self.inside.levels) c.self.inside.len c.args.place c.lowest_in.result c.self.invariant.past
+    c.lowest_in.ensures)

@@ -5,5 +5,6 @@ use Rattle.nomos_slots.proofs.places.Places.push.Goals as goal
 
 pub returns-clause-set : goal.returns-clause-set
 returns-clause-set c =
-    set_below-push c.args.set (ground c.self.inside.levels) (ground c.put.new.levels) c.self.inside.len c.put.ensures.put
+    set_below-push c.args.set (ground c.self.inside.levels) (ground c.put.new.levels) c.self.inside.len
+    c.put.ensures.put
     ∙ ap (λ s. s.set ++ c.args.set ∷ []) c.self.view_is

@@ -9,7 +9,8 @@ pub undo_all-requires-clause-covered : goal.undo_all-requires-clause-covered
 undo_all-requires-clause-covered g c place freed =
     let s = c.self.inside in
     c.self.invariant.covered place
-    (is_freed-take s.rows.items c.in-Some.len place (sym (ap (λ (rs : List (Row _)). is_freed rs place) c.truncate.ensures.items) ∙ freed))
+    (is_freed-take s.rows.items c.in-Some.len place
+    (sym (ap (λ (rs : List (Row _)). is_freed rs place) c.truncate.ensures.items) ∙ freed))
 
 pub returns-clause-now : goal.returns-clause-now
 returns-clause-now g c =
@@ -17,4 +18,5 @@ returns-clause-now g c =
     let n = c.in-Some.len in
     sym (ap (λ (m : Shelving _). m.marked) c.self.view_is)
     ∙ ap (marked_in s.rows.items s.log.items) c.in-Some.is
-    ∙ ap Some (ap (undo s.log.items) (sym (rows-cut s.rows.items _ n c.truncate.ensures.items)) ∙ sym c.undo_all.ensures.rows)
+    ∙ ap Some (ap (undo s.log.items) (sym (rows-cut s.rows.items _ n c.truncate.ensures.items))
+    ∙ sym c.undo_all.ensures.rows)

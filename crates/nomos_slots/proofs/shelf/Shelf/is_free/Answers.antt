@@ -20,15 +20,23 @@ returns-else-index g c =
     let at = c.args.place in
     let len : c.unwrap_or.result ≡ mark_len s.marked = c.unwrap_or.ensures ∙ same_len s.marked in
     let v = ap (λ (m : Shelving _). length m.now) c.self.view_is in
-    let l : at < length s.rows.items = omega (arith, v, c.requires, length-map s.rows.items (λ (r : Row _). r.items.items)) in
+    let l : at < length s.rows.items = omega (
+      arith,
+      v,
+      c.requires,
+      length-map s.rows.items (λ (r : Row _). r.items.items),
+    ) in
     let within = c.self.invariant.within in (
       λ yes.
           let late : c.unwrap_or.result ≤ at = leb-true c.unwrap_or.result at yes in
-          subst (λ (m : Shelving _). IsFree m at) c.self.view_is (free-seen s.rows s.log s.marked at within (inl (omega arith))),
+          subst (λ (m : Shelving _). IsFree m at) c.self.view_is
+          (free-seen s.rows s.log s.marked at within (inl (omega arith))),
       λ free.
-          let parts = free-from_seen s.rows s.log s.marked at within (subst (λ (m : Shelving _). IsFree m at) (sym c.self.view_is) free) in
+          let parts = free-from_seen s.rows s.log s.marked at within
+          (subst (λ (m : Shelving _). IsFree m at) (sym c.self.view_is) free) in
           elim parts [
             | inl late ↦ le-leb c.unwrap_or.result at (omega arith)
-            | inr freed ↦ absurd (both_ways _ (is_freed-read s.rows.items at c.index.result.now l c.index.ensures ∙ c.if-index.false) freed)
+            | inr freed ↦ absurd (both_ways _ (is_freed-read s.rows.items at c.index.result.now l c.index.ensures
+                ∙ c.if-index.false) freed)
           ],
     )

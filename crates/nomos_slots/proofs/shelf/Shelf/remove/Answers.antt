@@ -15,15 +15,26 @@ invariant_of-self g c =
     let s = c.self.inside in
     let at = c.args.place in
     let v = ap (λ (m : Shelving _). length m.now) c.self.view_is in
-    let l : at < length s.rows.items = omega (arith, v, c.requires.within, length-map s.rows.items (λ (r : Row _). r.items.items)) in
-    shelf-same s.rows.items s.log.items s.marked at c.index_mut.result.now _ c.self.invariant l c.index_mut.ensures.value refl
+    let l : at < length s.rows.items = omega (
+      arith,
+      v,
+      c.requires.within,
+      length-map s.rows.items (λ (r : Row _). r.items.items),
+    ) in
+    shelf-same s.rows.items s.log.items s.marked at c.index_mut.result.now _ c.self.invariant l
+    c.index_mut.ensures.value refl
 
 pub returns-clause-item : goal.returns-clause-item
 returns-clause-item g c =
     let s = c.self.inside in
     let at = c.args.place in
     let v = ap (λ (m : Shelving _). length m.now) c.self.view_is in
-    let l : at < length s.rows.items = omega (arith, v, c.requires.within, length-map s.rows.items (λ (r : Row _). r.items.items)) in
+    let l : at < length s.rows.items = omega (
+      arith,
+      v,
+      c.requires.within,
+      length-map s.rows.items (λ (r : Row _). r.items.items),
+    ) in
     let read = row-read s.rows.items at c.index_mut.result.now l c.index_mut.ensures.value in
     let same : get_or c.args.self.now.now at [] ≡ c.index_mut.result.now.items.items =
     ap (λ (m : Shelving _). get_or m.now at []) (sym c.self.view_is) ∙ read in
@@ -37,7 +48,12 @@ returns-clause-now g c =
     let s = c.self.inside in
     let at = c.args.place in
     let v = ap (λ (m : Shelving _). length m.now) c.self.view_is in
-    let l : at < length s.rows.items = omega (arith, v, c.requires.within, length-map s.rows.items (λ (r : Row _). r.items.items)) in
+    let l : at < length s.rows.items = omega (
+      arith,
+      v,
+      c.requires.within,
+      length-map s.rows.items (λ (r : Row _). r.items.items),
+    ) in
     let read = row-read s.rows.items at c.index_mut.result.now l c.index_mut.ensures.value in
     rows-set s.rows.items at _
     ∙ ap (set (rows_of s.rows.items) at) (c.remove.ensures.items ∙ ap (λ xs. remove xs c.args.at) (sym read))
@@ -48,13 +64,21 @@ returns-clause-marked g c =
     let s = c.self.inside in
     let at = c.args.place in
     let v = ap (λ (m : Shelving _). length m.now) c.self.view_is in
-    let l : at < length s.rows.items = omega (arith, v, c.requires.within, length-map s.rows.items (λ (r : Row _). r.items.items)) in
-    let free = free-from_seen s.rows s.log s.marked at c.self.invariant.within (subst (λ (m : Shelving _). IsFree m at) (sym c.self.view_is) c.requires.free) in
-    marked-free s.rows.items s.log.items s.marked at _ c.self.invariant l free ∙ ap (λ (m : Shelving _). m.marked) c.self.view_is
+    let l : at < length s.rows.items = omega (
+      arith,
+      v,
+      c.requires.within,
+      length-map s.rows.items (λ (r : Row _). r.items.items),
+    ) in
+    let free = free-from_seen s.rows s.log s.marked at c.self.invariant.within
+    (subst (λ (m : Shelving _). IsFree m at) (sym c.self.view_is) c.requires.free) in
+    marked-free s.rows.items s.log.items s.marked at _ c.self.invariant l free
+    ∙ ap (λ (m : Shelving _). m.marked) c.self.view_is
 
 pub returns-clause-freed : goal.returns-clause-freed
 returns-clause-freed g c =
-    map-set_same (λ (r : Row _). r.freed) c.self.inside.rows.items c.args.place _ _ (ap (λ (r : Row _). r.freed) c.index_mut.ensures.value)
+    map-set_same (λ (r : Row _). r.freed) c.self.inside.rows.items c.args.place _ _
+    (ap (λ (r : Row _). r.freed) c.index_mut.ensures.value)
     ∙ ap (λ (m : Shelving _). m.freed) c.self.view_is
 
 pub returns-clause-spares : goal.returns-clause-spares
@@ -62,8 +86,14 @@ returns-clause-spares g c other =
     let s = c.self.inside in
     let at = c.args.place in
     let v = ap (λ (m : Shelving _). length m.now) c.self.view_is in
-    let l : at < length s.rows.items = omega (arith, v, c.requires.within, length-map s.rows.items (λ (r : Row _). r.items.items)) in
-    let e = spares-more s.rows.items at 0 other c.index_mut.result.now (record { items = c.remove.new.self; freed = c.index_mut.result.now.freed })
+    let l : at < length s.rows.items = omega (
+      arith,
+      v,
+      c.requires.within,
+      length-map s.rows.items (λ (r : Row _). r.items.items),
+    ) in
+    let e = spares-more s.rows.items at 0 other c.index_mut.result.now
+    (record { items = c.remove.new.self; freed = c.index_mut.result.now.freed })
     l c.index_mut.ensures.value (omega arith) in
     let w = ap (λ (m : Shelving _). slice_index m.spares other) c.self.view_is in
     omega (arith, e, w)

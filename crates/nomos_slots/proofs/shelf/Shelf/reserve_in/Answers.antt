@@ -11,8 +11,14 @@ invariant_of-self g c =
     let s = c.self.inside in
     let at = c.args.place in
     let v = ap (λ (m : Shelving _). length m.now) c.self.view_is in
-    let l : at < length s.rows.items = omega (arith, v, c.requires, length-map s.rows.items (λ (r : Row _). r.items.items)) in
-    shelf-same s.rows.items s.log.items s.marked at c.index_mut.result.now _ c.self.invariant l c.index_mut.ensures.value refl
+    let l : at < length s.rows.items = omega (
+      arith,
+      v,
+      c.requires,
+      length-map s.rows.items (λ (r : Row _). r.items.items),
+    ) in
+    shelf-same s.rows.items s.log.items s.marked at c.index_mut.result.now _ c.self.invariant l
+    c.index_mut.ensures.value refl
 
 pub returns-clause-now : goal.returns-clause-now
 returns-clause-now g c =
@@ -24,13 +30,15 @@ returns-clause-now g c =
 pub returns-clause-marked : goal.returns-clause-marked
 returns-clause-marked g c =
     let s = c.self.inside in
-    marked-same s.rows.items s.log.items s.marked c.args.place c.index_mut.result.now _ c.index_mut.ensures.value c.reserve.ensures.items
+    marked-same s.rows.items s.log.items s.marked c.args.place c.index_mut.result.now _ c.index_mut.ensures.value
+    c.reserve.ensures.items
     ∙ ap (λ (m : Shelving _). m.marked) c.self.view_is
 
 pub returns-clause-freed : goal.returns-clause-freed
 returns-clause-freed g c =
     let s = c.self.inside in
-    map-set_same (λ (r : Row _). r.freed) s.rows.items c.args.place _ _ (ap (λ (r : Row _). r.freed) c.index_mut.ensures.value)
+    map-set_same (λ (r : Row _). r.freed) s.rows.items c.args.place _ _
+    (ap (λ (r : Row _). r.freed) c.index_mut.ensures.value)
     ∙ ap (λ (m : Shelving _). m.freed) c.self.view_is
 
 pub returns-clause-ok : goal.returns-clause-ok
@@ -38,7 +46,12 @@ returns-clause-ok g c =
     let s = c.self.inside in
     let at = c.args.place in
     let v = ap (λ (m : Shelving _). length m.now) c.self.view_is in
-    let l : at < length s.rows.items = omega (arith, v, c.requires, length-map s.rows.items (λ (r : Row _). r.items.items)) in
+    let l : at < length s.rows.items = omega (
+      arith,
+      v,
+      c.requires,
+      length-map s.rows.items (λ (r : Row _). r.items.items),
+    ) in
     let e = spares-at s.rows.items at (record { items = c.reserve.new.self; freed = c.index_mut.result.now.freed }) l in
     search (rules, e)
 
@@ -47,8 +60,14 @@ returns-clause-spares g c other =
     let s = c.self.inside in
     let at = c.args.place in
     let v = ap (λ (m : Shelving _). length m.now) c.self.view_is in
-    let l : at < length s.rows.items = omega (arith, v, c.requires, length-map s.rows.items (λ (r : Row _). r.items.items)) in
-    let e = spares-more s.rows.items at 0 other c.index_mut.result.now (record { items = c.reserve.new.self; freed = c.index_mut.result.now.freed })
+    let l : at < length s.rows.items = omega (
+      arith,
+      v,
+      c.requires,
+      length-map s.rows.items (λ (r : Row _). r.items.items),
+    ) in
+    let e = spares-more s.rows.items at 0 other c.index_mut.result.now
+    (record { items = c.reserve.new.self; freed = c.index_mut.result.now.freed })
     l c.index_mut.ensures.value (omega arith) in
     let w = ap (λ (m : Shelving _). slice_index m.spares other) c.self.view_is in
     omega (arith, e, w)

@@ -14,7 +14,8 @@ invariant_of-self g c =
 pub returns-clause-now : goal.returns-clause-now
 returns-clause-now g c =
     let n = c.args.len in
-    rows-cut c.self.inside.rows.items _ n c.truncate.ensures.items ∙ ap (λ (m : Shelving _). take n m.now) c.self.view_is
+    rows-cut c.self.inside.rows.items _ n c.truncate.ensures.items
+    ∙ ap (λ (m : Shelving _). take n m.now) c.self.view_is
 
 pub returns-clause-marked : goal.returns-clause-marked
 returns-clause-marked g c =
@@ -22,4 +23,5 @@ returns-clause-marked g c =
     let n = c.args.len in
     let fits = subst (λ (m : Shelving _). IfSome m.marked (λ rs. length rs ≤ n)) (sym c.self.view_is) c.requires in
     let past = late-from_seen s.rows.items s.log.items s.marked n c.self.invariant.within fits in
-    marked-cut s.rows.items _ s.log.items s.marked n past c.truncate.ensures.items ∙ ap (λ (m : Shelving _). m.marked) c.self.view_is
+    marked-cut s.rows.items _ s.log.items s.marked n past c.truncate.ensures.items
+    ∙ ap (λ (m : Shelving _). m.marked) c.self.view_is

@@ -5,7 +5,12 @@ use Rattle.nomos_snapshot.proofs.gathered.Gathering.take_message.Goals as goal
 
 pub returns-then-number-self : goal.returns-then-number-self
 returns-then-number-self c = λ a next goes.
-    absurd (omega (arith, (c.requires.objects c.args.message.number).0 (message-turn goes), c.if-number-self.true, c.from-number.ensures))
+    absurd (omega (
+      arith,
+      (c.requires.objects c.args.message.number).0 (message-turn goes),
+      c.if-number-self.true,
+      c.from-number.ensures,
+    ))
 
 pub returns : goal.returns
 returns c =

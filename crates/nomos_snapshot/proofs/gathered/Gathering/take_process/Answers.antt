@@ -5,7 +5,12 @@ use Rattle.nomos_snapshot.proofs.gathered.Gathering.take_process.Goals as goal
 
 pub returns-then-from-self : goal.returns-then-from-self
 returns-then-from-self c = λ a next goes.
-    absurd (omega (arith, (c.requires.objects c.args.seen.pid).0 (process-turn goes), c.if-from-self.true, c.from.ensures))
+    absurd (omega (
+      arith,
+      (c.requires.objects c.args.seen.pid).0 (process-turn goes),
+      c.if-from-self.true,
+      c.from.ensures,
+    ))
 
 pub returns : goal.returns
 returns c =

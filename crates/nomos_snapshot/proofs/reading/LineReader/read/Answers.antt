@@ -15,5 +15,6 @@ pub returns : goal.returns
 returns c =
     kind-reads c.args.self.now c.args.text.now c.in-Some.first.now c.next_word.new.self c.in-Some-kind_named.kind
     c.read_kind.result
-    (subst (λ (p : ProgramLists). NamesAreShort p) c.self.view_is c.lists-lists.ensures.program.names) (sym c.of-words.ensures ∙ c.in-Some.ensures)
+    (subst (λ (p : ProgramLists). NamesAreShort p) c.self.view_is c.lists-lists.ensures.program.names)
+    (sym c.of-words.ensures ∙ c.in-Some.ensures)
     (sym c.kind_named.ensures ∙ c.in-Some-kind_named.is) c.read_kind.ensures

@@ -4,7 +4,8 @@ use Rattle.nomos_snapshot.proofs.GatheringLemmas.{channel-taken}
 use Rattle.nomos_snapshot.proofs.told.ToldProcess.take_channel.Goals as goal
 
 pub returns-then-from-self : goal.returns-then-from-self
-returns-then-from-self c = λ over. absurd (omega (arith, (c.requires c.args.v).0 over, c.if-from-self.true, c.from.ensures))
+returns-then-from-self c =
+    λ over. absurd (omega (arith, (c.requires c.args.v).0 over, c.if-from-self.true, c.from.ensures))
 
 pub returns : goal.returns
 returns c =

@@ -14,5 +14,6 @@ returns-in-Some-clause-order c =
 pub returns-in-Some-clause-counts : goal.returns-in-Some-clause-counts
 returns-in-Some-clause-counts c d n =
     ap (λ (ts : List (Slot Tally)). tallied ts d n) c.put.ensures.now
-    ∙ gone-counted c.args.self.now.names.now c.requires.order c.in-Some.place c.args.name c.in-Some.field-0-1 c.in-Some.field-0-1
+    ∙ gone-counted c.args.self.now.names.now c.requires.order c.in-Some.place c.args.name c.in-Some.field-0-1
+    c.in-Some.field-0-1
     c.in-Some.ensures c.requires.idle d n

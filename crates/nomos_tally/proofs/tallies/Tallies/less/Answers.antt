@@ -18,7 +18,8 @@ returns c =
     let counts : (d : Doing) (n : ℕ)
     → tallied c.put.new.self.now d n + count_of n (only c.args.doing (c.args.name ∷ []) d) ≡ tallied before d n =
     λ d n.
-    ap (λ (ts : List (Slot Tally)). tallied ts d n + count_of n (only c.args.doing (c.args.name ∷ []) d)) c.put.ensures.now
+    ap (λ (ts : List (Slot Tally)). tallied ts d n + count_of n (only c.args.doing (c.args.name ∷ []) d))
+    c.put.ensures.now
     ∙ less-counted before c.requires c.in-Some.place c.args.name c.in-Some.tally next c.in-Some.ensures c.args.doing
     c.in-Some-less.ensures d n
     in

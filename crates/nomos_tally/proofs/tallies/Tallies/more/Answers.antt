@@ -24,7 +24,8 @@ returns c =
       exact = λ still. still;
       counts = λ still d n. omega (arith, counts d n);
       suspects = λ still.
-          more-suspects before c.put.new.self.now t.suspects t.suspects (λ d n. omega (arith, counts d n)) (λ known. known)
+          more-suspects before c.put.new.self.now t.suspects t.suspects (λ d n. omega (arith, counts d n))
+          (λ known. known)
           (λ known n there. there);
       marked = c.put.ensures.marked;
     }

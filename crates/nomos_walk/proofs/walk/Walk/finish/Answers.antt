@@ -34,7 +34,8 @@ pub returns-clause-stands : goal.returns-clause-stands
 returns-clause-stands g c =
     let before : WalkState = c.args.self.now in
     let w = c.args.under.world in
-    let program = ap (λ (x : WalkState). x.accepted) (c.in_ok-entry.ensures.walk (at_line c.args.under.outset.line) refl)
+    let program = ap (λ (x : WalkState). x.accepted)
+    (c.in_ok-entry.ensures.walk (at_line c.args.under.outset.line) refl)
     in
     let ended = ap (λ (e : Entry). e.end) c.in_ok-entry.ensures.entry in
     let allowed : IsAllowed c.written.new.self.accepted w.state (length w.firings)
