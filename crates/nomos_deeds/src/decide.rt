@@ -1,27 +1,28 @@
 //! What a process does, its instruction's terms evaluated.
-ghost use Rattle.std.specs.Prelude.{◌≡◌, [], IsOk, IfOk, IsSome, IfSome, Some, None, map, option_and_then, slice_get};
+ghost use Rattle.std.specs.Prelude.{◌≡◌, [], IsOk, IfOk, IsSome, IfSome, Some, None, All, map, option_and_then, slice_get};
 ghost use Rattle.std.specs.List.Sorted.{IsStrictlySortedBy};
 ghost use Rattle.std.specs.Ordering.{nat_cmp};
-ghost use Rattle.nomos_ir.specs.CodeParts.{code_terms};
+ghost use Rattle.nomos_ir.specs.CodeParts.{code_amounts, code_terms};
 ghost use Rattle.nomos_ir.specs.TermsEvaluation.{instruction_evaluation};
 ghost use Rattle.nomos_eval.specs.Outcomes.{outcome_of};
+ghost use Rattle.nomos_types.specs.Acceptance.{IsAmountOf};
 ghost use Rattle.nomos_machine.specs.Objects.{object_number};
 ghost use Rattle.nomos_machine.specs.State.{process_at};
 ghost use Rattle.nomos_machine.specs.Step.{deed};
 ghost use Rattle.nomos_machine.specs.declared.object.Process.{Process};
 ghost use Rattle.nomos_deeds.specs.Acting.{IsFrugal, IsFrugalDoing, IsFrugalNode};
 ghost use Rattle.nomos_deeds.specs.Acts.{doing_deed};
-ghost use Rattle.nomos_deeds.specs.Decisions.{IsDeedOf, TermsComeTo, fault_in_doing};
+ghost use Rattle.nomos_deeds.specs.Decisions.{IsDeedAt, IsDeedOf, StandsAt, StandsNowhere, TermsComeTo, fault_in_doing};
 ghost use Rattle.nomos_deeds.specs.declared.act.Act.TheVariants as act;
 ghost use Rattle.nomos_deeds.specs.declared.act.Doing.TheVariants as doing;
 
 use crate::act::{Act, Doing};
 use crate::arms::code_at;
-use crate::deeds::deed_of;
-use crate::outcomes::{evaluated, has_terms, known_or_evaluated};
+use crate::deeds::deed_at_node;
+use crate::outcomes::{has_terms, known_or_evaluated};
 use crate::sight::Sight;
 use nomos_eval::small::small_truth;
-use nomos_eval::wanted::{Outcome, Wanted};
+use nomos_eval::wanted::{Outcome, Wanted, evaluate_at};
 use nomos_ir::code_node::CodeNode;
 use nomos_ir::fault::Fault;
 use nomos_ir::ids::CodeId;
@@ -54,18 +55,38 @@ fn choice_at<S: Sight>(sight: &S, accepted: &Accepted, pid: u32, node: &CodeNode
     }
 }
 
-// What a process does at an `if` whose test is a small one, and at an instruction that has no terms. It takes no
-// memory.
+// Where a process stands, and the instruction there, if there is such a process and such an instruction.
 #[inline(always)]
-fn decide_at_once<S: Sight>(sight: &S, accepted: &Accepted, pid: u32) -> Option<Decision>
-    requires { IsStrictlySortedBy nat_cmp (map object_number (S.state sight.now).objects) }
-    ensures decides { IfSome result (IsDeedOf accepted.now (S.state sight.now) pid) }
-    ensures frugal { IsFrugal accepted.now (S.state sight.now) pid → IsSome result }
-    ensures acts { IfSome result (λ decision.
-        IsFrugal accepted.now (S.state sight.now) pid → IsFrugalDoing decision.doing) }
+fn stands_at<'a, S: Sight>(
+    sight: &S,
+    accepted: &'a Accepted,
+    pid: u32,
+) -> Option<(CodeId, &'a CodeNode)>
+    ensures found { IfSome result (λ at. StandsAt accepted.now (S.state sight.now) pid at.0 at.1.now) }
+    ensures amounts { IfSome result (λ at. All (IsAmountOf accepted.now.program) (code_amounts at.1.now)) }
+    ensures none { result ≡ None → StandsNowhere accepted.now (S.state sight.now) pid }
 {
     let seen = sight.process(pid)?;
     let node = code_at(accepted, seen.code)?;
+    Some((seen.code, node))
+}
+
+// What the process does at this instruction, where it is an `if` whose test is a small one, or has no terms. It takes
+// no memory.
+#[inline(always)]
+fn decide_at_once<S: Sight>(
+    sight: &S,
+    accepted: &Accepted,
+    pid: u32,
+    node: &CodeNode,
+) -> Option<Decision>
+    requires ordered { IsStrictlySortedBy nat_cmp (map object_number (S.state sight.now).objects) }
+    requires amounts { All (IsAmountOf accepted.now.program) (code_amounts node.now) }
+    ensures decides { IfSome result (IsDeedAt accepted.now (S.state sight.now) pid node.now) }
+    ensures frugal { IsFrugalNode accepted.now.program node.now → IsSome result }
+    ensures acts { IfSome result (λ decision.
+        IsFrugalNode accepted.now.program node.now → IsFrugalDoing decision.doing) }
+{
     let values = Values::empty();
     if let Some(next) = choice_at(sight, accepted, pid, node) {
         return Some(Decision {
@@ -76,26 +97,43 @@ fn decide_at_once<S: Sight>(sight: &S, accepted: &Accepted, pid: u32) -> Option<
     if has_terms(node) {
         return None;
     }
-    let doing = deed_of(sight, accepted, pid, &values);
+    let doing = deed_at_node(sight, accepted, pid, node, &values);
     Some(Decision { doing, values })
 }
 
-// What a process does whose instruction's terms come to this.
+// What the process does at this instruction, whose terms come to this.
 #[inline(always)]
-fn decide_by<S: Sight>(sight: &S, accepted: &Accepted, pid: u32, outcome: Outcome) -> Decision
+fn decide_by<S: Sight>(
+    sight: &S,
+    accepted: &Accepted,
+    pid: u32,
+    node: &CodeNode,
+    outcome: Outcome,
+) -> Decision
     requires ordered { IsStrictlySortedBy nat_cmp (map object_number (S.state sight.now).objects) }
+    requires amounts { All (IsAmountOf accepted.now.program) (code_amounts node.now) }
     requires outcome { TermsComeTo accepted.now (S.state sight.now) pid (outcome_of outcome) }
-    ensures { IsDeedOf accepted.now (S.state sight.now) pid result }
+    ensures { IsDeedAt accepted.now (S.state sight.now) pid node.now result }
 {
     match outcome {
         Outcome::Values(values) => {
-            let doing = deed_of(sight, accepted, pid, &values);
+            let doing = deed_at_node(sight, accepted, pid, node, &values);
             Decision { doing, values }
         }
         Outcome::Fault(fault) => Decision {
             doing: Some(Doing::Faults(fault)),
             values: Values::empty(),
         },
+    }
+}
+
+// Nothing is done where a process stands nowhere.
+fn undecided() -> Decision
+    ensures { result.doing ≡ None }
+{
+    Decision {
+        doing: None,
+        values: Values::empty(),
     }
 }
 
@@ -123,11 +161,14 @@ pub(crate) fn decide<S: Sight>(
     ensures acts { IfOk result (λ decision.
         IsFrugal accepted.now (S.state sight.now) pid → IsFrugalDoing decision.doing) }
 {
-    match decide_at_once(sight, accepted, pid) {
+    let Some((code, node)) = stands_at(sight, accepted, pid) else {
+        return Ok(undecided());
+    };
+    match decide_at_once(sight, accepted, pid, node) {
         Some(decision) => Ok(decision),
         None => {
-            let outcome = evaluated(sight, alloc, accepted, pid)?;
-            Ok(decide_by(sight, accepted, pid, outcome))
+            let outcome = evaluate_at(alloc, accepted.program(), code, sight.values(pid))?;
+            Ok(decide_by(sight, accepted, pid, node, outcome))
         }
     }
 }
@@ -149,11 +190,14 @@ pub(crate) fn decide_with<S: Sight>(
     ensures acts { IfOk result (λ decision.
         IsFrugal accepted.now (S.state sight.now) pid → IsFrugalDoing decision.doing) }
 {
-    match decide_at_once(sight, accepted, pid) {
+    let Some((_, node)) = stands_at(sight, accepted, pid) else {
+        return Ok(undecided());
+    };
+    match decide_at_once(sight, accepted, pid, node) {
         Some(decision) => Ok(decision),
         None => {
             let outcome = known_or_evaluated(sight, alloc, accepted, pid, known)?;
-            Ok(decide_by(sight, accepted, pid, outcome))
+            Ok(decide_by(sight, accepted, pid, node, outcome))
         }
     }
 }

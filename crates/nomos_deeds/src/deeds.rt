@@ -23,8 +23,8 @@ use nomos_ir::code_node::{Chan, CodeNode};
 use nomos_ir::value::Values;
 use nomos_types::accepted::Accepted;
 
-// What the process does at this instruction.
-fn deed_at_node<S: Sight>(
+/// What the process does at this instruction.
+pub(crate) fn deed_at_node<S: Sight>(
     sight: &S,
     accepted: &Accepted,
     pid: u32,

@@ -63,8 +63,8 @@ pub(crate) fn code_with_terms<S: Sight>(sight: &S, accepted: &Accepted, pid: u32
     }
 }
 
-/// What the terms of a process's instruction come to.
-pub(crate) fn evaluated<S: Sight>(
+// What the terms of a process's instruction come to.
+fn evaluated<S: Sight>(
     sight: &S,
     alloc: Global,
     accepted: &Accepted,

@@ -1,18 +1,26 @@
--- What small tests come to.
-use Rattle.std.proofs.Common.{◌≡◌, ◌+◌, ◌<◌, ℕ, Bool, true, nat_lt, Option, Some, None, slice_get, refl, sym, ap, ◌∙◌, subst, arith, tests, rules}
+-- What small tests and small terms come to.
+use Rattle.std.proofs.Common.{◌≡◌, ◌+◌, ◌<◌, ℕ, ℤ, ◌+ℤ◌, ◌-ℤ◌, ◌*ℤ◌, Bool, true, nat_lt, Option, Some, None, Result, slice_get, refl, sym, ap, ◌∙◌, subst, arith, tests, rules}
 use Rattle.nomos_ir.specs.declared.ids.TermId.{TermId}
 use Rattle.nomos_ir.specs.declared.ids.VarId.{VarId}
 use Rattle.nomos_ir.specs.declared.lists.ProgramLists.{ProgramLists}
 use Rattle.nomos_ir.specs.declared.term_node.TermNode.{TermNode}
 use Rattle.nomos_ir.specs.declared.term_node.TermNode.TheVariants as node
 use Rattle.nomos_ir.specs.Bindings.{bound_to}
-use Rattle.nomos_ir.specs.Evaluation.{Environment, Evaluation, Evaluator, ends, go_on, entered, counted, max_nodes, nought, on_numbers, same_number, term_evaluation}
+use Rattle.nomos_ir.specs.Evaluation.{Counted, Environment, Evaluation, Evaluator, divided, ends, go_on, entered, counted, max_nodes, node_evaluation, nought, on_numbers, rest_of_division, same_number, term_evaluation, whole}
 use Rattle.nomos_ir.specs.Value.{Value, int, truth, list, truth_in}
 use Rattle.nomos_ir.proofs.EvaluationLaws.{evaluation_from, evaluation-step, evaluation-whole}
 use Rattle.std.specs.Prelude.{int_lt, unwrap_or}
+use Rattle.nomos_ir.specs.declared.fault.Fault.{Fault}
+use Rattle.nomos_ir.specs.declared.or_no_memory.OrNoMemory.{OrNoMemory}
+use Rattle.nomos_ir.specs.declared.value_node.ValueNode.{ValueNode}
+use Rattle.nomos_eval.specs.declared.numbers.Operator.{Operator}
+use Rattle.nomos_eval.specs.declared.numbers.Operator.TheVariants as operator
 use Rattle.nomos_eval.specs.declared.small.Part.{Part}
+use Rattle.nomos_eval.specs.declared.small.Part.TheVariants as part
 use Rattle.nomos_eval.specs.SmallTest.{Decides, IsSmallNode, IsSmallPart, IsSmallTest}
-use Rattle.nomos_eval.specs.mirror.SmallPart.{equal_parts, less_parts, part_of, part_value}
+use Rattle.nomos_eval.specs.mirror.Operation.{operation, operation_node}
+use Rattle.nomos_eval.specs.mirror.SmallPart.{IsNumber, equal_parts, less_parts, part_of, part_value}
+use Rattle.nomos_eval.specs.mirror.TermsFound.{IsValue}
 
 -- a number or a variable that was entered
 entered-part : (lists : ProgramLists) (inner : Evaluator) (env : Environment) (o : Option TermNode) (n : ℕ)
@@ -147,3 +155,45 @@ module _ (lists : ProgramLists) (env : Environment) (t : TermId) where
             (same ∙ ap (λ p. equal_parts p y) x_is ∙ ap (λ q. equal_parts (part_of v) q) y_is)
             (equal-decides v w 3),
       )
+
+-- ---- what small terms come to
+
+-- what is answered of the node that a term enters is answered of the term
+pub value-enters : (lists : ProgramLists) (env : Environment) (t : TermId) (o : Option TermNode) (e : Evaluation)
+    (r : Result ValueNode (OrNoMemory Fault)) → slice_get lists.terms t.0 ≡ o
+    → entered lists (evaluation_from lists) 0 env o 1 ≡ e → IsValue r e → IsValue r (term_evaluation lists env t)
+value-enters lists env t o e r is enters said =
+    let P : Evaluation → Type 0 = λ f. IsValue r f in subst P (sym (whole-enters lists env t o e is enters)) said
+
+-- a part that is a number is that number
+pub number-is : (v : Value) (z : ℤ) → part.Number z ≡ part_of v → v ≡ int z
+number-is (int x) z is = ap int (let same : x ≡ z = cc is in same)
+number-is (truth b) z is = absurd cc
+number-is (list vs) z is = absurd cc
+
+-- two numbers, and what is done with them
+numbers-end : (lists : ProgramLists) (env : Environment) (a b : TermId) (next : ℤ → ℤ → Counted) (x y : ℤ)
+    → IsNumber env (slice_get lists.terms a.0) x → IsNumber env (slice_get lists.terms b.0) y
+    → go_on (evaluation_from lists 0 env a 1) (λ v m. go_on (evaluation_from lists 0 env b m) (on_numbers next v))
+    ≡ next x y 3
+numbers-end lists env a b next x y left right =
+    both-end lists env a b (on_numbers next) left.0 right.0
+    ∙ ap (λ v. on_numbers next v (part_value env (slice_get lists.terms b.0)) 3) left.1
+    ∙ ap (λ w. on_numbers next (int x) w 3) right.1
+
+-- an operator between two numbers
+pub operator-comes : (lists : ProgramLists) (env : Environment) (o : Operator) (at : ℕ) (a b : TermId) (x y : ℤ)
+    → IsNumber env (slice_get lists.terms a.0) x → IsNumber env (slice_get lists.terms b.0) y
+    → node_evaluation lists (evaluation_from lists) 0 env (operation_node o at a b) 1 ≡ operation o x y 3
+operator-comes lists env operator.Add at a b x y left right =
+    numbers-end lists env a b (λ p q. whole (p +ℤ q)) x y left right
+operator-comes lists env operator.Sub at a b x y left right =
+    numbers-end lists env a b (λ p q. whole (p -ℤ q)) x y left right
+operator-comes lists env operator.Mul at a b x y left right =
+    numbers-end lists env a b (λ p q. whole (p *ℤ q)) x y left right
+operator-comes lists env operator.Div at a b x y left right = numbers-end lists env a b divided x y left right
+operator-comes lists env operator.Rem at a b x y left right = numbers-end lists env a b rest_of_division x y left right
+operator-comes lists env operator.Less at a b x y left right =
+    numbers-end lists env a b (λ p q. ends (truth (int_lt p q))) x y left right
+operator-comes lists env operator.Equal at a b x y left right =
+    numbers-end lists env a b (λ p q. ends (truth (same_number p q))) x y left right

@@ -1,19 +1,22 @@
 //! The evaluation of a term.
-ghost use Rattle.std.specs.Prelude.{◌≡◌, IfOk, IfSome, unwrap_or};
+ghost use Rattle.std.specs.Prelude.{◌≡◌, ℕ, IfOk, IfSome, unwrap_or};
 ghost use Rattle.nomos_ir.specs.Bindings.{bound_to};
 ghost use Rattle.nomos_ir.specs.Evaluation.{ends, nought, term_evaluation};
 ghost use Rattle.nomos_ir.specs.ValueNode.{value_of};
 ghost use Rattle.nomos_eval.specs.EvaluatedAs.{EvaluatedAs};
 ghost use Rattle.nomos_eval.specs.mirror.Around.{Rises};
 ghost use Rattle.nomos_eval.specs.mirror.Begin.{IsBegun};
+ghost use Rattle.nomos_eval.specs.mirror.Operation.{given};
 ghost use Rattle.nomos_eval.specs.mirror.TermsFound.{IsValue};
 
 use crate::act::{Act, Scope};
 use crate::around::{Around, bound_value};
 use crate::evaluator::Evaluator;
 use crate::lists::Lists;
+use crate::numbers::Given;
 use crate::run::run;
 use crate::scopes::Scopes;
+use crate::small::small_operation;
 use crate::values::unload;
 use nomos_ir::fault::Fault;
 use nomos_ir::find::find_term;
@@ -101,8 +104,8 @@ pub(crate) fn eval_node(
     requires { Rises env.now known }
     ensures { IsValue result (term_evaluation lists.now env.now t) }
 {
-    if let Some(node) = node_at_once(lists, t, env, known)? {
-        return Ok(node);
+    if let Some(found) = small_term(lists, t, env, known) {
+        return found;
     }
     let mut evaluator = begin(alloc, t, env, known)?;
     let found = run(lists, &mut evaluator)?;
@@ -110,32 +113,48 @@ pub(crate) fn eval_node(
     Ok(node)
 }
 
-// The value of a number, a truth value or a variable as a node; nothing of other terms. It takes no memory.
-fn node_at_once(
+// What a term comes to that is a number, a truth value, a variable, or an operator between numbers and variables that
+// are numbers; nothing of other terms. It takes no memory.
+fn small_term(
     lists: &ProgramLists,
     t: TermId,
     env: &[(VarId, Value)],
     known: usize,
-) -> Result<Option<ValueNode>, AllocError>
+) -> Option<Result<ValueNode, OrNoMemory<Fault>>>
     requires { Rises env.now known }
-    ensures { IfOk result (λ found. IfSome found (λ node.
-        term_evaluation lists.now env.now t ≡ ends (value_of node) 1)) }
+    ensures { IfSome result (λ found. IsValue found (term_evaluation lists.now env.now t)) }
 {
-    match find_term(lists, t) {
-        Some(TermNode::Number(_, n)) => Ok(Some(ValueNode::Int(i64::from(*n)))),
-        Some(TermNode::Truth(_, b)) => Ok(Some(ValueNode::Bool(*b))),
-        Some(TermNode::Var(_, v)) => Ok(Some(node_bound(env, known, *v)?)),
-        _ => Ok(None),
+    let node = find_term(lists, t)?;
+    match node {
+        TermNode::Number(_, n) => Some(Ok(ValueNode::Int(i64::from(*n)))),
+        TermNode::Truth(_, b) => Some(Ok(ValueNode::Bool(*b))),
+        TermNode::Var(_, v) => Some(node_bound(env, known, *v)),
+        _ => Some(node_given(small_operation(lists, node, env, known)?)),
     }
 }
 
 // The value of a variable as a node; one without a value is 0. A list is not copied.
-fn node_bound(env: &[(VarId, Value)], known: usize, v: VarId) -> Result<ValueNode, AllocError>
+fn node_bound(
+    env: &[(VarId, Value)],
+    known: usize,
+    v: VarId,
+) -> Result<ValueNode, OrNoMemory<Fault>>
     requires { Rises env.now known }
-    ensures { IfOk result (λ node. value_of node ≡ unwrap_or (bound_to v.0 env.now) nought) }
+    ensures { IsValue result (ends (unwrap_or (bound_to v.0 env.now) nought) 1) }
 {
     match bound_value(env, known, v) {
-        Some(value) => value.node().copy(),
+        Some(value) => Ok(value.node().copy()?),
         None => Ok(ValueNode::Int(0)),
+    }
+}
+
+// What an operator gave, as a node or a fault.
+fn node_given(what: Given) -> Result<ValueNode, OrNoMemory<Fault>>
+    ensures { (n : ℕ) → IsValue result (given what n) }
+{
+    match what {
+        Given::Int(z) => Ok(ValueNode::Int(z)),
+        Given::Bool(b) => Ok(ValueNode::Bool(b)),
+        Given::Fault(fault) => Err(OrNoMemory::Answer(fault)),
     }
 }

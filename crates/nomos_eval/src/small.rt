@@ -1,12 +1,15 @@
-//! Tests that are decided without memory.
-ghost use Rattle.std.specs.Prelude.{◌≡◌, MatchOption, slice_get, unwrap_or};
+//! Tests that are decided without memory, and operators between numbers and variables.
+ghost use Rattle.std.specs.Prelude.{◌≡◌, ℕ, IfSome, MatchOption, slice_get, unwrap_or};
 ghost use Rattle.nomos_ir.specs.Bindings.{bound_to};
 ghost use Rattle.nomos_ir.specs.Evaluation.{nought, term_evaluation};
 ghost use Rattle.nomos_ir.specs.Value.{truth_in};
 ghost use Rattle.nomos_eval.specs.SmallTest.{Decides, IsSmallPart, IsSmallTest};
-ghost use Rattle.nomos_eval.specs.mirror.SmallPart.{equal_parts, less_parts, part_of, part_value};
+ghost use Rattle.nomos_eval.specs.mirror.Around.{Rises};
+ghost use Rattle.nomos_eval.specs.mirror.Operation.{operation_node};
+ghost use Rattle.nomos_eval.specs.mirror.SmallPart.{ComesTo, IsNumber, equal_parts, less_parts, part_of, part_value};
 
 use crate::around::bound_value;
+use crate::numbers::{Given, Operator, operate};
 use nomos_ir::find::find_term;
 use nomos_ir::ids::{TermId, VarId};
 use nomos_ir::lists::ProgramLists;
@@ -32,11 +35,17 @@ pub fn small_truth(program: &Program, t: TermId, env: &[(VarId, Value)]) -> Opti
     match find_term(lists, t)? {
         TermNode::Var(_, v) => Some(is_true(env, *v)),
         TermNode::Less(_, a, b) => {
-            let (left, right) = (small_part(lists, *a, env)?, small_part(lists, *b, env)?);
+            let (left, right) = (
+                small_part(lists, *a, env, 0)?,
+                small_part(lists, *b, env, 0)?,
+            );
             Some(is_less(left, right))
         }
         TermNode::Equal(_, a, b) => {
-            let (left, right) = (small_part(lists, *a, env)?, small_part(lists, *b, env)?);
+            let (left, right) = (
+                small_part(lists, *a, env, 0)?,
+                small_part(lists, *b, env, 0)?,
+            );
             Some(is_equal(left, right))
         }
         _ => None,
@@ -63,24 +72,26 @@ fn truth_in(value: &Value) -> bool
     }
 }
 
-// A number or a variable of a test, if it is one.
-fn small_part(lists: &ProgramLists, t: TermId, env: &[(VarId, Value)]) -> Option<Part>
+// A number or a variable, if it is one, among variables of which so many first ones are known to ascend.
+fn small_part(lists: &ProgramLists, t: TermId, env: &[(VarId, Value)], known: usize) -> Option<Part>
+    requires { Rises env.now known }
     ensures { MatchOption result (IsSmallPart (slice_get lists.now.terms t.0) → ⊥) (λ part.
         IsSmallPart (slice_get lists.now.terms t.0)
         × (part ≡ part_of (part_value env.now (slice_get lists.now.terms t.0)))) }
 {
     match find_term(lists, t)? {
         TermNode::Number(_, n) => Some(Part::Number(i64::from(*n))),
-        TermNode::Var(_, v) => Some(part_bound(env, *v)),
+        TermNode::Var(_, v) => Some(part_bound(env, known, *v)),
         _ => None,
     }
 }
 
 // A variable as a part; one without a value is 0.
-fn part_bound(env: &[(VarId, Value)], v: VarId) -> Part
+fn part_bound(env: &[(VarId, Value)], known: usize, v: VarId) -> Part
+    requires { Rises env.now known }
     ensures { result ≡ part_of (unwrap_or (bound_to v.0 env.now) nought) }
 {
-    match bound_value(env, 0, v) {
+    match bound_value(env, known, v) {
         Some(value) => part_from(value),
         None => Part::Number(0),
     }
@@ -114,4 +125,52 @@ fn is_equal(left: Part, right: Part) -> bool
         (Part::Number(x), Part::Number(y)) => x == y,
         _ => false,
     }
+}
+
+// The operator of a node and the terms on its sides, where it is one that takes numbers.
+fn sides_of(node: &TermNode) -> Option<(Operator, TermId, TermId)>
+    ensures { IfSome result (λ found. (at : ℕ) × (node.now ≡ operation_node found.0 at found.1 found.2)) }
+{
+    match node {
+        TermNode::Add(_, a, b) => Some((Operator::Add, *a, *b)),
+        TermNode::Sub(_, a, b) => Some((Operator::Sub, *a, *b)),
+        TermNode::Mul(_, a, b) => Some((Operator::Mul, *a, *b)),
+        TermNode::Div(_, a, b) => Some((Operator::Div, *a, *b)),
+        TermNode::Rem(_, a, b) => Some((Operator::Rem, *a, *b)),
+        TermNode::Less(_, a, b) => Some((Operator::Less, *a, *b)),
+        TermNode::Equal(_, a, b) => Some((Operator::Equal, *a, *b)),
+        _ => None,
+    }
+}
+
+// A number, or a variable that is a number.
+fn small_number(
+    lists: &ProgramLists,
+    t: TermId,
+    env: &[(VarId, Value)],
+    known: usize,
+) -> Option<i64>
+    requires { Rises env.now known }
+    ensures { IfSome result (λ z. IsNumber env.now (slice_get lists.now.terms t.0) z) }
+{
+    match small_part(lists, t, env, known)? {
+        Part::Number(z) => Some(z),
+        Part::Other => None,
+    }
+}
+
+/// What a node gives that is an operator between numbers and variables that are numbers. It takes no memory.
+pub(crate) fn small_operation(
+    lists: &ProgramLists,
+    node: &TermNode,
+    env: &[(VarId, Value)],
+    known: usize,
+) -> Option<Given>
+    requires { Rises env.now known }
+    ensures { IfSome result (λ found. ComesTo lists.now env.now node.now found) }
+{
+    let (operator, a, b) = sides_of(node)?;
+    let x = small_number(lists, a, env, known)?;
+    let y = small_number(lists, b, env, known)?;
+    Some(operate(operator, x, y))
 }

@@ -21,7 +21,7 @@ use Rattle.nomos_ir.specs.Name.{IsReserved, IsShortName, is_word_byte}
 use Rattle.nomos_ir.specs.Program.{IsProgram}
 use Rattle.nomos_ir.specs.TermParts.{term_parts, term_calls, term_kinds}
 use Rattle.nomos_ir.specs.Word.{text_of, reserved_word}
-use Rattle.nomos_term_tests.specs.TermTable.{IsTermTable, fits_at, emits, function_with, is_one_before, number, two_instructions}
+use Rattle.nomos_term_tests.specs.TermTable.{IsTermTable, fits_at, function_with, is_one_before, keeps, number, two_instructions}
 
 -- the text of a reserved word is that word
 reserved_word-text_of : (w : Word) → reserved_word (text_of w) ≡ Some w
@@ -173,15 +173,16 @@ fitting place (node.Or at a b) is = absurd cc
 
 -- ---- the program
 
-code-lower : (c : ℕ) (n : CodeNode) → slice_get two_instructions c ≡ Some n → AllBelow c (code_next n)
-code-lower zero n found =
+code-lower : (body : TermId) (c : ℕ) (n : CodeNode) → slice_get (two_instructions body) c ≡ Some n
+    → AllBelow c (code_next n)
+code-lower body zero n found =
     let P : CodeNode → Type 0 = λ m. AllBelow 0 (code_next m) in
     let same : code.Close 0 ≡ n = cc found in subst P same (All-nil _)
-code-lower (suc zero) n found =
+code-lower body (suc zero) n found =
     let P : CodeNode → Type 0 = λ m. AllBelow 1 (code_next m) in
-    let same : code.Emit 0 (record { 0 = 0 }) (record { 0 = 0 }) ≡ n = cc found in
+    let same : keeps body ≡ n = cc found in
     subst P same (All-cons (λ k. k < 1) 0 [] (omega arith) (All-nil _))
-code-lower (suc (suc c)) n found = absurd cc
+code-lower body (suc (suc c)) n found = absurd cc
 
 code-once : (c : ℕ) → count_of c (0 ∷ []) ≤ 1
 code-once c = omega (arith, at-most (0 == c))
@@ -195,7 +196,7 @@ table_program terms body = record {
   defs = [];
   types = [];
   terms = terms;
-  code = two_instructions;
+  code = two_instructions body;
   fns = function_with body ∷ [];
   procs = [];
   labels = [];
@@ -219,12 +220,12 @@ table-is_program terms body table inside =
               calls = (fit k d there).calls;
             };
             code =
-                All-cons (CodeInRange (table_program terms body)) (code.Close 0) (emits ∷ [])
+                All-cons (CodeInRange (table_program terms body)) (code.Close 0) (keeps body ∷ [])
                 (record { next = All-nil _; terms = All-nil _; calls = All-nil _; labels = All-nil _ })
-                (All-cons (CodeInRange (table_program terms body)) emits []
+                (All-cons (CodeInRange (table_program terms body)) (keeps body) []
                 (record {
                   next = All-cons (λ k. k < 2) 0 [] (omega arith) (All-nil _);
-                  terms = All-cons (λ k. k < length terms) 0 [] (omega arith) (All-nil _);
+                  terms = All-cons (λ k. k < length terms) body.0 [] inside (All-nil _);
                   calls = All-nil _;
                   labels = All-nil _;
                 }) (All-nil _));
@@ -235,15 +236,15 @@ table-is_program terms body table inside =
           record {
             types = λ t at found. absurd cc;
             terms = λ e n found. (fitting e n (table.each e n found)).parts;
-            code = code-lower;
+            code = code-lower body;
           };
       code = code-once;
       types = λ t there. absurd (omega arith);
       kinds =
           record {
             code =
-                All-cons (λ n. All IsShallow (code_kinds n)) (code.Close 0) (emits ∷ []) (All-nil _)
-                (All-cons (λ n. All IsShallow (code_kinds n)) emits [] (All-nil _) (All-nil _));
+                All-cons (λ n. All IsShallow (code_kinds n)) (code.Close 0) (keeps body ∷ []) (All-nil _)
+                (All-cons (λ n. All IsShallow (code_kinds n)) (keeps body) [] (All-nil _) (All-nil _));
             types = All-nil _;
             terms = λ k d there. (fit k d there).kinds;
             fns =
@@ -272,9 +273,9 @@ table-is_program terms body table inside =
           record {
             choices = All-nil _;
             cases =
-                All-cons (λ n. AllDiffer (code_labels n)) (code.Close 0) (emits ∷ [])
+                All-cons (λ n. AllDiffer (code_labels n)) (code.Close 0) (keeps body ∷ [])
                 (λ i j d before there. absurd (omega arith))
-                (All-cons (λ n. AllDiffer (code_labels n)) emits [] (λ i j d before there. absurd (omega arith))
+                (All-cons (λ n. AllDiffer (code_labels n)) (keeps body) [] (λ i j d before there. absurd (omega arith))
                 (All-nil _));
           };
       parameters =

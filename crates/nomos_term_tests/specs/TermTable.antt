@@ -46,9 +46,9 @@ function_with body = record {
   body = body;
 }
 
--- the end of a process, and before it an instruction that emits the first term
-abbrev pub emits : CodeNode
-emits = code.Emit 0 (record { 0 = 0 }) (record { 0 = 0 })
+-- the end of a process, and before it a `let` of this term
+abbrev pub keeps : TermId → CodeNode
+keeps body = code.Let 0 (record { 0 = 9 }) body (record { 0 = 0 })
 
-abbrev pub two_instructions : List CodeNode
-two_instructions = code.Close 0 ∷ emits ∷ []
+abbrev pub two_instructions : TermId → List CodeNode
+two_instructions body = code.Close 0 ∷ keeps body ∷ []

@@ -6,6 +6,8 @@ mod kind_tests;
 #[cfg(test)]
 mod list_tests;
 #[cfg(test)]
+mod small_tests;
+#[cfg(test)]
 mod table;
 #[cfg(test)]
 mod value_tests;

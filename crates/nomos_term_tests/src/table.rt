@@ -107,10 +107,10 @@ fn functions_of(alloc: Global, body: TermId) -> Result<FnDecls, AllocError>
 }
 
 // The two instructions.
-fn code_of(alloc: Global) -> Result<CodeNodes, AllocError>
-    ensures { IfOk result (λ code. code ≡ two_instructions) }
+fn code_of(alloc: Global, body: TermId) -> Result<CodeNodes, AllocError>
+    ensures { IfOk result (λ code. code ≡ two_instructions body) }
 {
-    let first = CodeNode::Emit(0, TermId(0), CodeId(0));
+    let first = CodeNode::Let(0, VarId(9), body, CodeId(0));
     let code = vec![in alloc; CodeNode::Close(0), first]?;
     Ok(Items::of_vec(code))
 }
@@ -124,7 +124,7 @@ fn program_with(
     body: TermId,
 ) -> Program
     requires table { IsTermTable terms.items }
-    requires code { code ≡ two_instructions }
+    requires code { code ≡ two_instructions body }
     requires fns { fns ≡ function_with body ∷ [] }
     requires body { body.0 < length terms.items }
     ensures { result.terms ≡ terms.items }
@@ -140,8 +140,8 @@ fn program_with(
     })
 }
 
-/// The program of these terms, whose function 0 has this body, and whose instruction 1 emits the first term; none where
-/// a term does not stand behind its parts.
+/// The program of these terms, whose function 0 has this body, and whose instruction 1 is a `let` of it; none where a
+/// term does not stand behind its parts.
 pub(crate) fn program_of(
     alloc: Global,
     terms: Vec<TermNode>,
@@ -153,6 +153,6 @@ pub(crate) fn program_of(
         return Ok(None);
     }
     let fns = functions_of(alloc, TermId(body))?;
-    let code = code_of(alloc)?;
+    let code = code_of(alloc, TermId(body))?;
     Ok(Some(program_with(alloc, terms, code, fns, TermId(body))))
 }

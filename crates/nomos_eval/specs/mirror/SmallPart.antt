@@ -1,12 +1,17 @@
--- A mirror of the code: the parts of a test that is decided without memory.
-use Rattle.std.specs.Prelude.{pos, int_lt, Bool, false, unwrap_or, Option, Some}
+-- A mirror of the code: the parts of a test or of an operation that is worked out without memory.
+use Rattle.std.specs.Prelude.{◌≡◌, ℤ, pos, int_lt, Bool, false, unwrap_or, Option, Some}
 use Rattle.nomos_ir.specs.Bindings.{bound_to}
-use Rattle.nomos_ir.specs.Evaluation.{Environment, nought, same_number}
+use Rattle.nomos_ir.specs.Evaluation.{Environment, node_evaluation, nought, same_number}
+use Rattle.nomos_ir.proofs.EvaluationLaws.{evaluation_from}
+use Rattle.nomos_ir.specs.declared.lists.ProgramLists.{ProgramLists}
 use Rattle.nomos_ir.specs.Value.{Value, int, truth, list}
 use Rattle.nomos_ir.specs.declared.term_node.TermNode.{TermNode}
 use Rattle.nomos_ir.specs.declared.term_node.TermNode.TheVariants as node
+use Rattle.nomos_eval.specs.declared.numbers.Given.{Given}
 use Rattle.nomos_eval.specs.declared.small.Part.{Part}
 use Rattle.nomos_eval.specs.declared.small.Part.TheVariants as part
+use Rattle.nomos_eval.specs.SmallTest.{IsSmallPart}
+use Rattle.nomos_eval.specs.mirror.Operation.{given}
 
 -- the value of a number or a variable
 abbrev pub part_value : Environment → Option TermNode → Value
@@ -28,3 +33,11 @@ less_parts _ _ = false
 abbrev pub equal_parts : Part → Part → Bool
 equal_parts (part.Number x) (part.Number y) = same_number x y
 equal_parts _ _ = false
+
+-- this number, or a variable that is this number
+abbrev pub IsNumber : Environment → Option TermNode → ℤ → Type 0
+IsNumber env o z = IsSmallPart o × (part_value env o ≡ int z)
+
+-- a node that is entered first comes to what is given, and two more nodes are entered for it
+abbrev pub ComesTo : ProgramLists → Environment → TermNode → Given → Type 0
+ComesTo lists env n found = node_evaluation lists (evaluation_from lists) 0 env n 1 ≡ given found 3
