@@ -6,12 +6,12 @@ use Rattle.nomos_accept.proofs.StepLemmas.{one-step}
 use Rattle.nomos_accept.specs.AcceptedText.{ReadsWith, IsOffence, IsCauseOf}
 use Rattle.nomos_accept.specs.TypedText.{IsReadAs}
 use Rattle.nomos_accept.specs.Causes.{step_of, offset_of, limit_of, form_of, SameCause}
-use Rattle.nomos_accept.specs.declared.refusal.Why.{Why}
-use Rattle.nomos_accept.specs.declared.refusal.Why.TheVariants as why
+use Rattle.nomos_accept.specs.declared.why.Why.{Why}
+use Rattle.nomos_accept.specs.declared.why.Why.TheVariants as why
 use Rattle.nomos_elaborate.proofs.InstructionLaws.{Tells}
 use Rattle.nomos_elaborate.specs.NameClaim.{first_broken}
 use Rattle.nomos_elaborate.specs.FileClaims.{claims_of}
-use Rattle.nomos_program.specs.WrittenWork.{written_work}
+use Rattle.nomos_elaborate.specs.WrittenWork.{written_work}
 use Rattle.nomos_grammar.proofs.OffenceLaws.{error_once}
 use Rattle.nomos_grammar.specs.declared.offence.GrammarError.{GrammarError}
 use Rattle.nomos_grammar.specs.declared.offence.GrammarError.TheVariants as grammar

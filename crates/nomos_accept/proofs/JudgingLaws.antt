@@ -4,7 +4,7 @@ use Rattle.nomos_accept.proofs.AcceptLaws.{one-program}
 use Rattle.nomos_accept.specs.AcceptedText.{AreRowsFor, IsAcceptedAs, IsProgramWith, IsRefused, IsUnsolved}
 use Rattle.nomos_accept.specs.TypedText.{IsReadAs}
 use Rattle.nomos_accept.specs.Preparing.{HasRows}
-use Rattle.nomos_accept.specs.declared.refusal.Why.TheVariants as why
+use Rattle.nomos_accept.specs.declared.why.Why.TheVariants as why
 use Rattle.nomos_forms.specs.Bounds.{IsFound}
 use Rattle.nomos_forms.specs.Meeting.{MeetsRows}
 use Rattle.nomos_forms.specs.Refuting.{NoneMeet, Refutes}

@@ -5,8 +5,8 @@ use Rattle.nomos_accept.proofs.RefusalLemmas.{offends-not_obeying, bare-not_cont
 use Rattle.nomos_accept.proofs.StepLemmas.{not_ascii-not_plain}
 use Rattle.nomos_accept.specs.AcceptedText.{IsOffence, IsCauseOf, IsRefuted}
 use Rattle.nomos_accept.specs.TypedText.{IsReadAs, IsTypedAs, IsNeverTypedText}
-use Rattle.nomos_accept.specs.declared.refusal.Why.{Why}
-use Rattle.nomos_accept.specs.declared.refusal.Why.TheVariants as why
+use Rattle.nomos_accept.specs.declared.why.Why.{Why}
+use Rattle.nomos_accept.specs.declared.why.Why.TheVariants as why
 use Rattle.nomos_elaborate.specs.FileClaims.{claims_of}
 use Rattle.nomos_elaborate.specs.NameClaim.{first_broken}
 use Rattle.nomos_forms.proofs.CertificateLaws.{none_meet}
@@ -17,8 +17,8 @@ use Rattle.nomos_grammar.specs.declared.offence.GrammarError.TheVariants as gram
 use Rattle.nomos_ir.specs.Amounts.{star_count}
 use Rattle.nomos_ir.specs.Limits.{text_limit}
 use Rattle.nomos_ir.specs.declared.lists.ProgramLists.{ProgramLists}
-use Rattle.nomos_parse.proofs.ParsingLaws.{refused-none}
-use Rattle.nomos_program.specs.WrittenWork.{written_work}
+use Rattle.nomos_reader.proofs.ParsingLaws.{refused-none}
+use Rattle.nomos_elaborate.specs.WrittenWork.{written_work}
 use Rattle.nomos_rows.proofs.MeetingLaws.{program-rows-law}
 use Rattle.nomos_rows.specs.PartFaults.{IsNeverTyped}
 use Rattle.nomos_surface.specs.Tree.{FileTree}

@@ -3,10 +3,10 @@ use Rattle.std.proofs.Common.{◌≡◌, ℕ, List, All, Some, None, IsTrue, ◌
 use Rattle.std.proofs.lemmas.List.Elements.{All-contains}
 use Rattle.nomos_accept.proofs.AcceptLaws.{one-tree}
 use Rattle.nomos_accept.specs.TypedText.{IsNeverTypedText}
-use Rattle.nomos_program.specs.Elaborated.{BreaksCosts}
+use Rattle.nomos_elaborate.specs.Elaborated.{BreaksCosts}
 use Rattle.nomos_elaborate.specs.NameClaim.{first_broken}
 use Rattle.nomos_elaborate.specs.FileClaims.{claims_of}
-use Rattle.nomos_program.specs.WrittenWork.{written_work}
+use Rattle.nomos_elaborate.specs.WrittenWork.{written_work}
 use Rattle.nomos_ir.proofs.NodeLaws.{All-at}
 use Rattle.nomos_ir.specs.Nodes.{type_node}
 use Rattle.nomos_ir.specs.Unfold.{IsConstructor, IsContractive}
@@ -16,7 +16,7 @@ use Rattle.nomos_ir.specs.declared.type_node.Def.{Def}
 use Rattle.nomos_ir.specs.declared.type_node.TypeNode.{TypeNode}
 use Rattle.nomos_ir.specs.declared.type_node.TypeNode.TheVariants as node
 use Rattle.nomos_rows.specs.PartFaults.{IsNeverTyped}
-use Rattle.nomos_parse.specs.Parsing.{ReadsAsNone}
+use Rattle.nomos_reader.specs.Parsing.{ReadsAsNone}
 use Rattle.nomos_surface.specs.TreeReading.{ReadsAs}
 use Rattle.nomos_surface.specs.Tree.{FileTree}
 use Rattle.nomos_types.specs.Forming.{IsFirstBareName, IsFirstOffence}

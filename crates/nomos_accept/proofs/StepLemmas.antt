@@ -7,22 +7,22 @@ use Rattle.nomos_accept.proofs.RefusalLemmas.{bare-not_contractive, offence-not_
 use Rattle.nomos_accept.specs.AcceptedText.{IsOffence, IsProgramWith, ReadsWith, IsCauseOf}
 use Rattle.nomos_accept.specs.TypedText.{IsReadAs}
 use Rattle.nomos_accept.specs.Causes.{step_of}
-use Rattle.nomos_accept.specs.declared.refusal.Why.{Why}
-use Rattle.nomos_accept.specs.declared.refusal.Why.TheVariants as why
-use Rattle.nomos_program.specs.Elaborated.{ObeysNames}
+use Rattle.nomos_accept.specs.declared.why.Why.{Why}
+use Rattle.nomos_accept.specs.declared.why.Why.TheVariants as why
+use Rattle.nomos_elaborate.specs.Elaborated.{ObeysNames}
 use Rattle.nomos_elaborate.specs.NameClaim.{first_broken}
 use Rattle.nomos_elaborate.specs.FileClaims.{claims_of}
-use Rattle.nomos_program.specs.WrittenWork.{written_work}
+use Rattle.nomos_elaborate.specs.WrittenWork.{written_work}
 use Rattle.nomos_grammar.specs.declared.offence.GrammarError.{GrammarError}
 use Rattle.nomos_grammar.specs.declared.offence.GrammarError.TheVariants as grammar
 use Rattle.nomos_ir.specs.Unfold.{IsContractive}
 use Rattle.nomos_ir.specs.declared.lists.ProgramLists.{ProgramLists}
 use Rattle.nomos_rows.specs.PartFaults.{LeadsAstray}
 use Rattle.nomos_equality.specs.declared.hop.Hop.{Hop}
-use Rattle.nomos_parse.proofs.ParsingLaws.{refused-none}
+use Rattle.nomos_reader.proofs.ParsingLaws.{refused-none}
 use Rattle.nomos_surface.specs.TreeReading.{ReadsAs}
 use Rattle.nomos_surface.specs.Tree.{FileTree}
-use Rattle.nomos_sync.proofs.SyncLaws.{offends-not_synchronizing}
+use Rattle.nomos_equality.proofs.SyncLaws.{offends-not_synchronizing}
 use Rattle.nomos_ir.specs.Limits.{text_limit}
 use Rattle.nomos_syntax.specs.Reading.{IsPlainText}
 use Rattle.nomos_syntax.specs.Spans.{IsFirstNotAscii}

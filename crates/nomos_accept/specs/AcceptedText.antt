@@ -1,10 +1,10 @@
 -- Which contract texts are accepted, and why the others are refused.
 use Rattle.std.specs.Prelude.{◌≡◌, ◌<◌, ℕ, List, length, Some, Result, Ok, Err}
-use Rattle.nomos_accept.specs.declared.refusal.AcceptError.{AcceptError}
-use Rattle.nomos_accept.specs.declared.refusal.AcceptError.TheVariants as error
-use Rattle.nomos_accept.specs.declared.refusal.Why.{Why}
-use Rattle.nomos_accept.specs.declared.refusal.Why.TheVariants as why
-use Rattle.nomos_program.specs.Elaborated.{BreaksCosts}
+use Rattle.nomos_accept.specs.declared.why.AcceptError.{AcceptError}
+use Rattle.nomos_accept.specs.declared.why.AcceptError.TheVariants as error
+use Rattle.nomos_accept.specs.declared.why.Why.{Why}
+use Rattle.nomos_accept.specs.declared.why.Why.TheVariants as why
+use Rattle.nomos_elaborate.specs.Elaborated.{BreaksCosts}
 use Rattle.nomos_elaborate.specs.NameClaim.{first_broken}
 use Rattle.nomos_elaborate.specs.FileClaims.{claims_of}
 use Rattle.nomos_forms.specs.Refuting.{Refutes}

@@ -1,7 +1,7 @@
 -- When two causes of a refusal are the same.
 use Rattle.std.specs.Prelude.{◌≡◌, ℕ, Option, Some, None}
-use Rattle.nomos_accept.specs.declared.refusal.Why.{Why}
-use Rattle.nomos_accept.specs.declared.refusal.Why.TheVariants as why
+use Rattle.nomos_accept.specs.declared.why.Why.{Why}
+use Rattle.nomos_accept.specs.declared.why.Why.TheVariants as why
 use Rattle.nomos_grammar.specs.declared.offence.Which.{Which}
 use Rattle.nomos_ir.specs.declared.code_form.CodeForm.{CodeForm}
 

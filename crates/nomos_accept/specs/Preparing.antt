@@ -3,10 +3,10 @@ use Rattle.std.specs.Prelude.{ℕ, List, Result, Ok, Err}
 use Rattle.nomos_accept.specs.AcceptedText.{AreRowsFor, IsRefused}
 use Rattle.nomos_accept.specs.TypedText.{IsReadAs}
 use Rattle.nomos_accept.specs.declared.preparing.Prepared.{Prepared}
-use Rattle.nomos_accept.specs.declared.refusal.AcceptError.{AcceptError}
-use Rattle.nomos_accept.specs.declared.refusal.AcceptError.TheVariants as error
-use Rattle.nomos_accept.specs.declared.refusal.Why.{Why}
-use Rattle.nomos_accept.specs.declared.refusal.Why.TheVariants as why
+use Rattle.nomos_accept.specs.declared.why.AcceptError.{AcceptError}
+use Rattle.nomos_accept.specs.declared.why.AcceptError.TheVariants as error
+use Rattle.nomos_accept.specs.declared.why.Why.{Why}
+use Rattle.nomos_accept.specs.declared.why.Why.TheVariants as why
 use Rattle.nomos_forms.specs.declared.row_list.RowList.{RowList}
 use Rattle.nomos_ir.specs.Amounts.{star_count}
 use Rattle.nomos_ir.specs.declared.lists.ProgramLists.{ProgramLists}

@@ -2,7 +2,7 @@
 use Rattle.std.specs.Prelude.{◌≡◌, ℕ, List, length}
 use Rattle.nomos_ir.specs.Amounts.{star_count}
 use Rattle.nomos_ir.specs.declared.lists.ProgramLists.{ProgramLists}
-use Rattle.nomos_program.specs.Elaborated.{ElaboratesTo}
+use Rattle.nomos_elaborate.specs.Elaborated.{ElaboratesTo}
 use Rattle.nomos_surface.specs.Tree.{FileTree}
 use Rattle.nomos_surface.specs.TreeReading.{ReadsAs}
 use Rattle.nomos_types.specs.Amount.{Annotations, HasUnit}

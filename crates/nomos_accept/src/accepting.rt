@@ -9,7 +9,7 @@ ghost use Rattle.nomos_forms.specs.Refuting.{NoneMeet, Refutes};
 ghost use Rattle.nomos_types.specs.Acceptance.{acceptance};
 
 use crate::preparing::{Prepared, prepare};
-use crate::refusal::{AcceptError, Why};
+use crate::why::{AcceptError, Why};
 use nomos_forms::found::Found;
 use nomos_forms::meeting::put_back;
 use nomos_forms::refuting::refutes;

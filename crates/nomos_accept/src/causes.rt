@@ -2,18 +2,18 @@
 ghost use Rattle.std.specs.Prelude.{ℕ, List, Err};
 ghost use Rattle.nomos_accept.specs.TypedText.{IsReadAs};
 ghost use Rattle.nomos_accept.specs.Preparing.{AnswersRefusal};
-ghost use Rattle.nomos_program.specs.Elaborated.{Answers as AnswersElaborate};
+ghost use Rattle.nomos_elaborate.specs.Elaborated.{Answers as AnswersElaborate};
 ghost use Rattle.nomos_ir.specs.declared.lists.ProgramLists.{ProgramLists};
 ghost use Rattle.nomos_rows.specs.PartFaults.{IsCause};
-ghost use Rattle.nomos_parse.specs.Parsing.{AnswersParse};
+ghost use Rattle.nomos_reader.specs.Parsing.{AnswersParse};
 ghost use Rattle.nomos_surface.specs.TreeReading.{ReadsAs};
 ghost use Rattle.nomos_surface.specs.Tree.{FileTree};
 ghost use Rattle.nomos_types.specs.Forming.{IsFormFault};
 ghost use Rattle.nomos_types.specs.Typed.{IsWellFormed};
 
-use crate::refusal::{AcceptError, Why};
+use crate::why::{AcceptError, Why};
 use nomos_elaborate::elab_error::ElabError;
-use nomos_parse::parse::ParseError;
+use nomos_reader::parse::ParseError;
 use nomos_rows::program_rows::RowsError;
 use nomos_types::forming::FormError;
 

@@ -4,4 +4,4 @@
 pub mod accepting;
 mod causes;
 pub mod preparing;
-pub mod refusal;
+pub mod why;

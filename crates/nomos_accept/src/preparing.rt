@@ -4,14 +4,14 @@ ghost use Rattle.nomos_accept.specs.TypedText.{IsReadAs};
 ghost use Rattle.nomos_accept.specs.Preparing.{AnswersPrepared, AnswersRefusal, HasRows};
 ghost use Rattle.nomos_accept.specs.mirror.Read.{AnswersRead};
 ghost use Rattle.nomos_ir.specs.Program.{IsProgram};
-ghost use Rattle.nomos_syntax.specs.Limits.{node_limit};
+ghost use Rattle.nomos_syntax.specs.TextLimits.{node_limit};
 
 use crate::causes::{of_form, of_names, of_parse, of_rows};
-use crate::refusal::AcceptError;
+use crate::why::AcceptError;
+use nomos_elaborate::elaborate::elaborate;
 use nomos_forms::row_list::RowList;
 use nomos_ir::program::Program;
-use nomos_parse::parse::parse;
-use nomos_program::elaborate::elaborate;
+use nomos_reader::parse::parse;
 use nomos_rows::program_rows::program_rows;
 use nomos_types::forming::well_formed;
 use std::alloc::Global;

@@ -2,9 +2,9 @@
 use Rattle.std.proofs.Common.{◌≡◌, ◌≢◌, ◌∙◌, ◌<◌, ◌⊎◌, inl, inr, ℕ, List, [], ◌∷◌, length, true≢false, Option, Some, None, refl, sym, ap, subst, arith}
 use Rattle.std.specs.Prelude.{IfSome, IsSome, codes}
 use Rattle.nomos_accept.specs.AcceptedText.{IsAcceptedAs, IsRefused}
-use Rattle.nomos_accept.specs.declared.refusal.Why.TheVariants as why
+use Rattle.nomos_accept.specs.declared.why.Why.TheVariants as why
 use Rattle.nomos_due.proofs.SourceLemmas.{some_text}
-use Rattle.nomos_due.specs.Lines.{read_fault_line}
+use Rattle.nomos_due.specs.DueLines.{read_fault_line}
 use Rattle.nomos_due.specs.Outside.{FaultCounts, HasText, HaveRisen, Input, SinkState, SourceState, source_state}
 use Rattle.nomos_due.specs.Sources.{kept_text}
 use Rattle.nomos_due.specs.Written.{HasWrittenOut}

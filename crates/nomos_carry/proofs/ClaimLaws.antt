@@ -2,7 +2,7 @@
 use Rattle.std.proofs.Common.{◌≡◌, ◌≢◌, inl, inr, ℕ, List, Option, Some, None, sym, subst, arith}
 use Rattle.nomos_accept.specs.AcceptedText.{IsAcceptedAs}
 use Rattle.nomos_due.specs.Outside.{Input}
-use Rattle.nomos_due.specs.Runs.{HasRunFrom, usual_orders}
+use Rattle.nomos_due.specs.RunsDue.{HasRunFrom, usual_orders}
 use Rattle.nomos_due.specs.Written.{with_text}
 use Rattle.nomos_legal.specs.Ledger.{LedgerState, empty_ledger}
 use Rattle.nomos_snapshot.specs.Text.{snapshot_text}

@@ -4,8 +4,8 @@ use Rattle.std.specs.List.{list_all}
 use Rattle.std.specs.Prelude.{IsSome, if◌then◌else◌}
 use Rattle.nomos_accept.specs.AcceptedText.{IsAcceptedAs}
 use Rattle.nomos_base.specs.Sink.{with_end}
-use Rattle.nomos_due.specs.Lines as lines
-use Rattle.nomos_due.specs.Lines.{IsNoScript}
+use Rattle.nomos_due.specs.DueLines as lines
+use Rattle.nomos_due.specs.DueLines.{IsNoScript}
 use Rattle.nomos_due.specs.Outside.{Input, SinkState}
 use Rattle.nomos_due.specs.Resumes as resumes
 use Rattle.nomos_due.specs.Resumes.{IsNoLedger}

@@ -1,8 +1,8 @@
 -- Of a contract that is not accepted one thing is told, and nothing of one that is.
 use Rattle.std.proofs.Common.{◌≡◌, ◌∙◌, ◌⊎◌, inl, inr, ℕ, List, Err, refl, sym, ap, subst}
 use Rattle.nomos_accept.specs.AcceptedText.{Answers, IsAcceptedAs, IsCauseOf, PivotRunEndsWith, found_amounts}
-use Rattle.nomos_accept.specs.declared.refusal.AcceptError.{AcceptError}
-use Rattle.nomos_accept.specs.declared.refusal.AcceptError.TheVariants as error
+use Rattle.nomos_accept.specs.declared.why.AcceptError.{AcceptError}
+use Rattle.nomos_accept.specs.declared.why.AcceptError.TheVariants as error
 use Rattle.nomos_due.specs.Outside.{Input}
 use Rattle.nomos_ir.specs.declared.lists.ProgramLists.{ProgramLists}
 use Rattle.nomos_simplex.specs.declared.solved.Solved.TheVariants as solved

@@ -5,7 +5,7 @@ use Rattle.std.specs.Prelude.{codes}
 use Rattle.nomos_accept.specs.AcceptedText.{IsAcceptedAs}
 use Rattle.nomos_due.specs.Outside.{sink_state, source_state}
 use Rattle.nomos_due.specs.Resumes as resumes
-use Rattle.nomos_due.specs.Runs.{HasRunFrom, usual_orders}
+use Rattle.nomos_due.specs.RunsDue.{HasRunFrom, usual_orders}
 use Rattle.nomos_due.specs.Saves as saves
 use Rattle.nomos_due.specs.Written as writing
 use Rattle.nomos_legal.specs.Ledger.{LedgerState, empty_ledger}

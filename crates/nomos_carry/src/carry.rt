@@ -13,7 +13,7 @@ ghost use Rattle.nomos_carry.specs.mirror.Errands.{AloneFor, Behind, Ends, IsDue
 
 use crate::errands::{Errand, errand_of};
 use nomos_accept::accepting::accept;
-use nomos_accept::refusal::AcceptError;
+use nomos_accept::why::AcceptError;
 use nomos_base::{ReadError, Sink, Source, SureSource, read_all, write_all};
 use nomos_carrying::carrying::{begin_due, carry_due};
 use nomos_carrying::numbering::numbers_due;

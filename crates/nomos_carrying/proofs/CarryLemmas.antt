@@ -3,7 +3,7 @@ use Rattle.std.proofs.Common.{◌≡◌, ℕ, List, length, Option, Some, None, 
 use Rattle.std.specs.Prelude.{IfSome}
 use Rattle.nomos_due.specs.Finding.{HasNoLedger, IsNoLedgerOf, SavesWhole, saved, unsaved}
 use Rattle.nomos_due.specs.Outside.{HasText, Input, SourceState, input_of}
-use Rattle.nomos_due.specs.Runs.{usual_orders}
+use Rattle.nomos_due.specs.RunsDue.{usual_orders}
 use Rattle.nomos_due.specs.Saves as saves
 use Rattle.nomos_due.specs.Saves.{IsSaveDue}
 use Rattle.nomos_due.specs.Sources.{IsSaveDueFor, kept_text}

@@ -23,8 +23,8 @@ use Rattle.nomos_machine.specs.declared.object.Object.{Object}
 use Rattle.nomos_machine.specs.declared.object.Object.TheVariants as object
 use Rattle.nomos_machine.specs.declared.object.Process.{Process}
 use Rattle.nomos_script.specs.ScriptNames.{IsScriptName}
-use Rattle.nomos_snapshot.specs.Told.{AreSorted, parts_ledger}
-use Rattle.nomos_snapshot.specs.declared.parts.LedgerParts.{LedgerParts}
+use Rattle.nomos_snapshot.specs.ToldLines.{AreSorted, parts_ledger}
+use Rattle.nomos_snapshot.specs.declared.ledger_parts.LedgerParts.{LedgerParts}
 use Rattle.nomos_types.specs.Judgement.{count_one}
 use Rattle.nomos_carrying.specs.Renumbered.{IsRenumbered, MakesDense, ledger_by, object_by}
 use Rattle.nomos_carrying.specs.mirror.Dense.{AreNumbersOf, NumberLists, place_in}

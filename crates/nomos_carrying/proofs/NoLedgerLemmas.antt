@@ -11,7 +11,7 @@ use Rattle.nomos_due.specs.declared.due.Due.{Due}
 use Rattle.nomos_due.specs.declared.resumes.NoLedger.{NoLedger}
 use Rattle.nomos_due.specs.declared.resumes.NoLedger.TheVariants as no_ledger
 use Rattle.nomos_legal.specs.Ledger.{LedgerState}
-use Rattle.nomos_report.specs.Lines.{line}
+use Rattle.nomos_report.specs.ReportLines.{line}
 use Rattle.nomos_snapshot.specs.Loading.{Loads}
 use Rattle.nomos_types.specs.Acceptance.{Acceptance}
 use Rattle.nomos_carrying.specs.CarryDue.{IsRenumberingDue, TellsNumbers, next_numbers}

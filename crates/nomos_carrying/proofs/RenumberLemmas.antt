@@ -28,12 +28,12 @@ use Rattle.nomos_snapshot.specs.Loading as loading
 use Rattle.nomos_snapshot.specs.Saving.{HasLowNumbers, Saves}
 use Rattle.nomos_snapshot.specs.Saving as saving
 use Rattle.nomos_snapshot.specs.Text.{snapshot_text}
-use Rattle.nomos_snapshot.specs.Told.{AreSorted, parts_ledger}
+use Rattle.nomos_snapshot.specs.ToldLines.{AreSorted, parts_ledger}
 use Rattle.nomos_snapshot.specs.declared.error.LoadError.{LoadError}
 use Rattle.nomos_snapshot.specs.declared.error.SaveError.{SaveError}
 use Rattle.nomos_snapshot.specs.declared.error.SaveError.TheVariants as save_error
 use Rattle.nomos_snapshot.specs.declared.error.LoadError.TheVariants as error
-use Rattle.nomos_snapshot.specs.declared.parts.LedgerParts.{LedgerParts}
+use Rattle.nomos_snapshot.specs.declared.ledger_parts.LedgerParts.{LedgerParts}
 use Rattle.nomos_snapshot.proofs.LoadingLaws.{loads-loaded}
 use Rattle.nomos_snapshot.proofs.OneReadingLaws.{text-one}
 use Rattle.nomos_snapshot.proofs.OrderLaws.{reads-few, reads-orderly}

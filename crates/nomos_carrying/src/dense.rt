@@ -1,4 +1,4 @@
-//! Numbers that are made dense: 1, 2, 3 and so on, in the order in which they stand.
+//! DenseNumbers that are made dense: 1, 2, 3 and so on, in the order in which they stand.
 
 ghost use Rattle.std.specs.Prelude.{◌≡◌, ◌≢◌, ◌≤◌, ◌^◌, AllPairs, IfOk, length, map};
 ghost use Rattle.std.specs.List.Sorted.{IsStrictlySortedBy};
@@ -8,7 +8,7 @@ ghost use Rattle.nomos_contents.specs.Data.{state_of};
 ghost use Rattle.nomos_ir.specs.Bindings.{each_bound};
 ghost use Rattle.nomos_legal.specs.Ledger.{AreNamed};
 ghost use Rattle.nomos_machine.specs.Objects.{object_number};
-ghost use Rattle.nomos_snapshot.specs.Told.{AreSorted, parts_ledger};
+ghost use Rattle.nomos_snapshot.specs.ToldLines.{AreSorted, parts_ledger};
 ghost use Rattle.nomos_carrying.specs.Renumbered.{IsRenumbered, ledger_by, message_by, object_by, payload_by, process_by, state_by};
 ghost use Rattle.nomos_carrying.specs.mirror.Dense.{AreFew, AreNumbersOf, place_in};
 
@@ -18,18 +18,18 @@ use nomos_ir::items::Items;
 use nomos_ledger::contract_names::ContractNames;
 use nomos_machine::object::{Message, Object, Payload, Process, VarNames};
 use nomos_script::name::ScriptName;
-use nomos_snapshot::parts::LedgerParts;
+use nomos_snapshot::ledger_parts::LedgerParts;
 use std::alloc::{AllocError, Global};
 use std::marker::Model;
 
 // The numbers of the objects of a ledger, and its names, each in ascending order, and at most 2^31 of each.
 #[derive(Drop)]
-struct Numbers {
+struct DenseNumbers {
     objects: Vec<u32>,
     names: Vec<u32>,
 }
 
-impl Model for Numbers {
+impl Model for DenseNumbers {
     ghost use Rattle.nomos_carrying.specs.mirror.Dense.{AreDistinct, NumberLists};
 
     ghost Value = { NumberLists };
@@ -81,16 +81,16 @@ fn place_in(numbers: &[u32], number: u32) -> u32
     smaller as u32 + 1
 }
 
-impl Numbers {
+impl DenseNumbers {
     // The numbers of a state.
-    fn of(alloc: Global, contents: &StateData) -> Result<Numbers, AllocError>
+    fn of(alloc: Global, contents: &StateData) -> Result<DenseNumbers, AllocError>
         requires sorted { AreSorted contents.now }
         requires few { AreFew contents.now }
         ensures { IfOk result (AreNumbersOf contents.now) }
     {
         let objects = numbers_of(alloc, contents.objects.as_slice())?;
         let names = names_of(alloc, contents.types.as_slice())?;
-        Ok(Numbers { objects, names })
+        Ok(DenseNumbers { objects, names })
     }
 
     // What comes in place of the number of an object.
@@ -274,6 +274,6 @@ pub(crate) fn dense_parts(alloc: Global, parts: LedgerParts) -> Result<LedgerPar
     ensures sorted { IfOk result (λ made. AreSorted made.contents) }
     ensures named { IfOk result (λ made. AreNamed made.accounts made.contracts made.contents.balances) }
 {
-    let numbers = Numbers::of(alloc, &parts.contents)?;
+    let numbers = DenseNumbers::of(alloc, &parts.contents)?;
     numbers.parts(alloc, parts)
 }

@@ -2,7 +2,7 @@
 
 ghost use Rattle.std.specs.Prelude.{◌≡◌, ◌↔◌, ◌++◌, IfOk, IfSome, IsTrue, None, codes};
 ghost use Rattle.nomos_due.specs.Outside.{source_state};
-ghost use Rattle.nomos_report.specs.Lines.{line};
+ghost use Rattle.nomos_report.specs.ReportLines.{line};
 ghost use Rattle.nomos_carrying.specs.CarryDue.{IsRenumberingDue, TellsNumbers, next_numbers};
 ghost use Rattle.nomos_carrying.specs.CarrySources.{IsNumbersDueFor};
 ghost use Rattle.nomos_carrying.specs.mirror.Renumbering.{TellsNextOf};

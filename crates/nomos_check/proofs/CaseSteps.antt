@@ -22,8 +22,8 @@ use Rattle.nomos_types.specs.Premises.{HasType, by_side, ArmsGoOn, AwaitsLabel}
 use Rattle.nomos_types.specs.TypingRule.{StandsAtCode}
 use Rattle.nomos_check.specs.Account.{Account}
 use Rattle.nomos_check.specs.declared.standing.Standing.{Standing}
-use Rattle.nomos_check.specs.declared.standing.Way.{Way}
-use Rattle.nomos_check.specs.declared.standing.Way.TheVariants as way
+use Rattle.nomos_check.specs.declared.standing.WayOn.{WayOn}
+use Rattle.nomos_check.specs.declared.standing.WayOn.TheVariants as way
 use Rattle.nomos_check.specs.mirror.Cases.{HasArm, AreWays, none, arm, HasOddArm}
 use Rattle.nomos_check.specs.mirror.StandingData.{IsWayOf, LeadsAlong, NoRow, shape_of, way_account, way_shape}
 use Rattle.nomos_check.proofs.ChannelLaws.{head-unique}
@@ -71,7 +71,7 @@ more-items P xs i d inside before here k e below =
     ]
 
 -- one more arm leads on one more way
-pub ways-more : (c : Chan) (bs : List Branch) (arms : List Arm) (ways : List Way) (a : Arm) (t : TypeId)
+pub ways-more : (c : Chan) (bs : List Branch) (arms : List Arm) (ways : List WayOn) (a : Arm) (t : TypeId)
     → AreWays c bs arms ways → goes_by bs a.label ≡ Some t
     → AreWays c bs (arms ++ a ∷ []) (ways ++ way.Label c t a.goes ∷ [])
 ways-more c bs _ _ a t none found = arm t found none
@@ -79,14 +79,14 @@ ways-more c bs _ _ a t (arm {arms = arms} {ways = ways} u goes rest) found =
     arm u goes (ways-more c bs arms ways a t rest found)
 
 -- the arms go on where their ways lead
-pub ways-go_on : (j : Judgement) (c : Chan) (bs : List Branch) {arms : List Arm} {ways : List Way}
+pub ways-go_on : (j : Judgement) (c : Chan) (bs : List Branch) {arms : List Arm} {ways : List WayOn}
     → AreWays c bs arms ways
     → ArmsGoOn j c bs arms (map (way_shape j) ways)
 ways-go_on j c bs none = ArmsGoOn.none
 ways-go_on j c bs (arm t found rest) = ArmsGoOn.arm t found (ways-go_on j c bs rest)
 
 -- the ways after one more turn
-pub ways-step : (c : Chan) (bs : List Branch) (arms : List Arm) (ways made : List Way) (i : ℕ) (d : Arm) (t : TypeId)
+pub ways-step : (c : Chan) (bs : List Branch) (arms : List Arm) (ways made : List WayOn) (i : ℕ) (d : Arm) (t : TypeId)
     → i < length arms → AreWays c bs (take i arms) ways → goes_by bs (get_or arms i d).label ≡ Some t
     → made ≡ ways ++ way.Label c t (get_or arms i d).goes ∷ [] → AreWays c bs (take (i + 1) arms) made
 ways-step c bs arms ways made i d t inside before found put =
@@ -97,16 +97,17 @@ ways-step c bs arms ways made i d t inside before found put =
     let with_arms : AreWays c bs (take (i + 1) arms) (ways ++ way.Label c t a.goes ∷ []) =
     subst (λ (xs : List Arm). AreWays c bs xs (ways ++ way.Label c t a.goes ∷ [])) (sym all) more
     in
-    subst (λ (ws : List Way). AreWays c bs (take (i + 1) arms) ws) (sym put) with_arms
+    subst (λ (ws : List WayOn). AreWays c bs (take (i + 1) arms) ws) (sym put) with_arms
 
 -- each way leaves the account as it is
-ways-account : (a : Account) (c : Chan) (bs : List Branch) {arms : List Arm} {ways : List Way} → AreWays c bs arms ways
+ways-account : (a : Account) (c : Chan) (bs : List Branch) {arms : List Arm} {ways : List WayOn}
+    → AreWays c bs arms ways
     → map (λ (x : Arm). a) arms ≡ map (way_account a) ways
 ways-account a c bs none = refl
 ways-account a c bs (arm t found rest) = ap (λ (others : List Account). a ∷ others) (ways-account a c bs rest)
 
 -- no way takes a list apart
-ways-there : (s : Standing) (c : Chan) (bs : List Branch) {arms : List Arm} {ways : List Way} → AreWays c bs arms ways
+ways-there : (s : Standing) (c : Chan) (bs : List Branch) {arms : List Arm} {ways : List WayOn} → AreWays c bs arms ways
     → All (IsWayOf s) ways
 ways-there s c bs none = All-nil (IsWayOf s)
 ways-there s c bs (arm {a = a} {ways = ways} t found rest) =
@@ -188,7 +189,7 @@ module _ (lists : ProgramLists) (s : Standing) (at : ℕ) (c : Chan) (arms : Lis
       cc)
 
   -- the arms lead on their ways
-  pub case-leads : (ways : List Way) → All (λ b. HasArm arms b.label) bs → AreWays c bs arms ways
+  pub case-leads : (ways : List WayOn) → All (λ b. HasArm arms b.label) bs → AreWays c bs arms ways
       → LeadsAlong lists s ways
   case-leads ways covered are =
       let j = shape_of s in

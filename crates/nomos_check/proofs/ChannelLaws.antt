@@ -16,7 +16,7 @@ use Rattle.nomos_types.specs.Judgement.{Judgement, IsJudgement, SuitsMode, chann
 use Rattle.nomos_types.specs.Premises.{HasType}
 use Rattle.nomos_types.specs.Unfolding.{IsUnfolding}
 use Rattle.nomos_types.proofs.ModeLaws.{mode-in_range}
-use Rattle.nomos_check.specs.mirror.Finding.{IsFound}
+use Rattle.nomos_check.specs.mirror.FoundWrong.{IsFound}
 
 module _ (lists : ProgramLists) (j : Judgement) where
   -- the type of a channel that is used exactly once has its place

@@ -26,8 +26,8 @@ use Rattle.nomos_check.specs.declared.checking.Checked.{Checked}
 use Rattle.nomos_check.specs.declared.checking.ProcError.{ProcError}
 use Rattle.nomos_check.specs.declared.checking.ProcError.TheVariants as error
 use Rattle.nomos_check.specs.declared.standing.Standing.{Standing}
-use Rattle.nomos_check.specs.declared.walk.Stuck.{Stuck}
-use Rattle.nomos_check.specs.declared.walk.Walk.{Walk}
+use Rattle.nomos_check.specs.declared.code_walk.Stuck.{Stuck}
+use Rattle.nomos_check.specs.declared.code_walk.CodeWalk.{CodeWalk}
 use Rattle.nomos_check.specs.mirror.ProcessAnswers.{IsGathered, JoinsPairs}
 use Rattle.nomos_check.specs.mirror.Fresh.{IsFresh}
 use Rattle.nomos_check.specs.mirror.StartingWalk.{IsStartOf}
@@ -43,12 +43,12 @@ start-reached {lists} o s is = record {
 }
 
 module _ {lists : ProgramLists} {n : ℕ} (o : Outset) (within : StaysWithin lists n o) (s : Standing)
-    (is : IsStartOf n o s) (old : Walk) (fresh : IsFresh old) where
+    (is : IsStartOf n o s) (old : CodeWalk) (fresh : IsFresh old) where
   pub start-on_way : IsOnWay lists n s
   start-on_way = record { outset = o; within = within; reached = start-reached o s is }
 
   -- what is done from there on is a walk
-  pub start-walking : (new : Walk) → Goes lists n s old new → Walking lists n o old new.todo new
+  pub start-walking : (new : CodeWalk) → Goes lists n s old new → Walking lists n o old new.todo new
   start-walking new goes =
       let reached = start-reached o s is in
       let all : new.todo ≡ goes.added = goes.todo ∙ ap (λ l. goes.added ++ l) fresh.todo ∙ append-nil goes.added in
@@ -68,11 +68,11 @@ module _ {lists : ProgramLists} {n : ℕ} (o : Outset) (within : StaysWithin lis
         is_open = subst (All (IsOpen lists n o)) (sym all) (goes.is_open o reached);
       }
 
-  pub start-walk : (new : Walk) → Goes lists n s old new → IsWalk lists n new.todo new
+  pub start-walk : (new : CodeWalk) → Goes lists n s old new → IsWalk lists n new.todo new
   start-walk new goes = record { outset = o; within = within; first = old; walking = start-walking new goes }
 
   -- at the end all is gathered
-  pub all-gathered : (new : Walk) → Walking lists n o old [] new → IsGathered lists n o old.asked.equalities new
+  pub all-gathered : (new : CodeWalk) → Walking lists n o old [] new → IsGathered lists n o old.asked.equalities new
   all-gathered new walking = record {
     done =
         λ j a reached.
@@ -112,7 +112,7 @@ module _ {lists : ProgramLists} (p : ℕ) (d : ProcDecl) (formed : IsWellFormed 
   begins : HasItsAccount lists (outset_of lists d).judgement (outset_of lists d).account
   begins = start-has p formed found
 
-  module _ (known : Compared) (w : Walk) (gathered : IsGathered lists (star_count lists)
+  module _ (known : Compared) (w : CodeWalk) (gathered : IsGathered lists (star_count lists)
       (outset_of lists d) known w) where
     form-there : (f : Form) → IsFormOf lists (star_count lists) (outset_of lists d) f → Contains w.forms.items f
     form-there f of =

@@ -18,7 +18,7 @@ use Rattle.nomos_types.specs.Judgement.{Judgement, count_one, IsFree}
 use Rattle.nomos_types.specs.TypingRule.{StandsAtCode}
 use Rattle.nomos_check.specs.declared.standing.Carried.{Carried}
 use Rattle.nomos_check.specs.declared.standing.Standing.{Standing}
-use Rattle.nomos_check.specs.mirror.Finding.{IsFound}
+use Rattle.nomos_check.specs.mirror.FoundWrong.{IsFound}
 use Rattle.nomos_check.specs.mirror.StandingData.{shape_of, shape_of_list}
 
 -- what was found has the property

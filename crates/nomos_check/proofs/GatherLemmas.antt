@@ -4,14 +4,14 @@ use Rattle.nomos_ir.specs.declared.lists.ProgramLists.{ProgramLists}
 use Rattle.nomos_types.specs.Judgement.{Judgement}
 use Rattle.nomos_check.specs.Account.{Account}
 use Rattle.nomos_check.specs.Reaching.{Outset}
-use Rattle.nomos_check.specs.declared.walk.Stuck.{Stuck}
-use Rattle.nomos_check.specs.declared.walk.Walk.{Walk}
+use Rattle.nomos_check.specs.declared.code_walk.Stuck.{Stuck}
+use Rattle.nomos_check.specs.declared.code_walk.CodeWalk.{CodeWalk}
 use Rattle.nomos_check.specs.mirror.Stops.{first_stuck}
 use Rattle.nomos_check.specs.mirror.Walking.{IsDone, Grows, Gathers, IsStuckBy}
 use Rattle.nomos_check.specs.InHand.{IsWanted}
 
 -- nothing changes
-pub grows-same : {w : Walk} → Grows w w
+pub grows-same : {w : CodeWalk} → Grows w w
 grows-same = record {
   forms = λ f among. among;
   pairs = λ free pair has. has;
@@ -21,7 +21,7 @@ grows-same = record {
 }
 
 -- one growth after another
-pub grows-through : {old between new : Walk} → Grows old between → Grows between new → Grows old new
+pub grows-through : {old between new : CodeWalk} → Grows old between → Grows between new → Grows old new
 grows-through first second = record {
   forms = λ f among. second.forms f (first.forms f among);
   pairs = λ free pair has. second.pairs free pair (first.pairs (second.none free) pair has);
@@ -35,7 +35,7 @@ grows-through first second = record {
 }
 
 -- what is done stays done
-pub done-grows : {lists : ProgramLists} {n : ℕ} {old new : Walk} {j : Judgement} {a : Account} → Grows old new
+pub done-grows : {lists : ProgramLists} {n : ℕ} {old new : CodeWalk} {j : Judgement} {a : Account} → Grows old new
     → IsDone lists n old j a → IsDone lists n new j a
 done-grows {j = j} grows done = record {
   forms = λ f point. grows.forms f (done.forms f point);
@@ -56,7 +56,7 @@ done-grows {j = j} grows done = record {
 }
 
 -- nothing is gathered
-pub gathers-none : {lists : ProgramLists} {n : ℕ} {o : Outset} {w : Walk} → Gathers lists n o w w
+pub gathers-none : {lists : ProgramLists} {n : ℕ} {o : Outset} {w : CodeWalk} → Gathers lists n o w w
 gathers-none = record {
   forms = λ f among. inl among;
   pairs = λ free pair has. inl has;
@@ -67,7 +67,7 @@ gathers-none = record {
 
 module _ {lists : ProgramLists} {n : ℕ} {o : Outset} where
   -- what is gathered in two stretches
-  pub gathers-through : {old between new : Walk} → Gathers lists n o old between → Grows between new
+  pub gathers-through : {old between new : CodeWalk} → Gathers lists n o old between → Grows between new
       → Gathers lists n o between new → Gathers lists n o old new
   gathers-through {old} {between} {new} first grows second = record {
     forms = λ f among. ⊎_elim (λ before. first.forms f before) (λ here. inr here) (second.forms f among);

@@ -17,7 +17,7 @@ use Rattle.nomos_check.specs.Account.{Account}
 use Rattle.nomos_check.specs.Reaching.{Outset}
 use Rattle.nomos_check.specs.declared.standing.Forks.{Forks}
 use Rattle.nomos_check.specs.declared.standing.Standing.{Standing}
-use Rattle.nomos_check.specs.declared.walk.Walk.{Walk}
+use Rattle.nomos_check.specs.declared.code_walk.CodeWalk.{CodeWalk}
 use Rattle.nomos_check.specs.mirror.StandingData.{shape_of, HasAccount, LeadsTo, LeadsAlong}
 use Rattle.nomos_check.specs.mirror.Walking.{IsReached, IsOpen, Visits, Going, Goes, Gathers, Grows, width}
 
@@ -26,7 +26,7 @@ module _ (lists : ProgramLists) where
   stars = star_count lists
 
   -- at the beginning
-  pub going-start : (s : Standing) (w : Walk) → Going lists stars s s w w
+  pub going-start : (s : Standing) (w : CodeWalk) → Going lists stars s s w w
   going-start s w = record {
     not_later = omega arith;
     todo = refl;
@@ -36,7 +36,7 @@ module _ (lists : ProgramLists) where
     reached = λ o r. r;
   }
 
-  module _ (formed : IsWellFormed lists) (first s : Standing) (old between new : Walk)
+  module _ (formed : IsWellFormed lists) (first s : Standing) (old between new : CodeWalk)
       (going : Going lists stars first s old between) (visits : Visits lists s between new)
       (left : new.todo ≡ between.todo) (a : Account) (has : HasAccount stars s a) where
     grown : Grows old new
@@ -80,7 +80,7 @@ module _ (lists : ProgramLists) where
     }
 
   -- into several ways
-  pub goes-along : (formed : IsWellFormed lists) (first : Standing) (f : Forks) (old between new : Walk)
+  pub goes-along : (formed : IsWellFormed lists) (first : Standing) (f : Forks) (old between new : CodeWalk)
       → Going lists stars first f.before old between → Visits lists f.before between new
       → new.todo ≡ f ∷ between.todo → (a : Account) → HasAccount stars f.before a
       → LeadsAlong lists f.before f.ways.items → Goes lists stars first old new

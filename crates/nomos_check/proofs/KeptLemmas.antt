@@ -7,7 +7,7 @@ use Rattle.nomos_check.specs.Account.{Account}
 use Rattle.nomos_check.specs.InHand.{HasInHand, AreWanted, ArePotentials, IsWanted}
 use Rattle.nomos_check.specs.Reaching.{Outset}
 use Rattle.nomos_check.specs.declared.standing.Standing.{Standing}
-use Rattle.nomos_check.specs.declared.walk.Walk.{Walk}
+use Rattle.nomos_check.specs.declared.code_walk.CodeWalk.{CodeWalk}
 use Rattle.nomos_check.specs.mirror.ProcessAnswers.{IsGathered}
 use Rattle.nomos_check.specs.mirror.StandingData.{shape_of, HasAccount}
 
@@ -15,7 +15,7 @@ use Rattle.nomos_check.specs.mirror.StandingData.{shape_of, HasAccount}
 in-hand : {n : ℕ} {s : Standing} {j : Judgement} {a : Account} → shape_of s ≡ j → HasAccount n s a → HasInHand n s j a
 in-hand shape has = record { judgement = sym shape; potential = has.potential; amounts = sym has.lists }
 
-module _ {lists : ProgramLists} {n : ℕ} {o : Outset} {known : Compared} (w : Walk) (wanted : List Bool)
+module _ {lists : ProgramLists} {n : ℕ} {o : Outset} {known : Compared} (w : CodeWalk) (wanted : List Bool)
     (same : w.wanted.now ≡ wanted) (gathered : IsGathered lists n o known w) where
   pub kept-wanted : AreWanted lists n o wanted w.places.items
   kept-wanted = record {

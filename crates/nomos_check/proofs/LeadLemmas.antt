@@ -13,7 +13,7 @@ use Rattle.nomos_check.specs.Account.{Account}
 use Rattle.nomos_check.specs.Accounting.{accounts_after}
 use Rattle.nomos_check.specs.declared.standing.Carried.{Carried}
 use Rattle.nomos_check.specs.declared.standing.Standing.{Standing}
-use Rattle.nomos_check.specs.declared.standing.Way.{Way}
+use Rattle.nomos_check.specs.declared.standing.WayOn.{WayOn}
 use Rattle.nomos_check.specs.mirror.StepMoves.{KeepsAmounts}
 use Rattle.nomos_check.specs.mirror.StandingData.{shape_of, amount_of, HasAccount, IsWayOf, LeadsAlong, LeadsTo, way_account, way_shape}
 
@@ -50,7 +50,7 @@ leads-on s next k n stands same steps shape keeps =
     leads-with s next k n stands steps shape (λ a has. (a, same a, keeps-account keeps has))
 
 -- several ways on
-pub leads-along : {lists : ProgramLists} (s : Standing) (n : CodeNode) (made ways : List Way) → made ≡ ways
+pub leads-along : {lists : ProgramLists} (s : Standing) (n : CodeNode) (made ways : List WayOn) → made ≡ ways
     → StandsAtCode lists (shape_of s) n → TypingRule lists no_amounts (shape_of s) (map (way_shape (shape_of s)) ways)
     → ((a : Account) → HasAccount (star_count lists) s a → accounts_after lists n a ≡ map (way_account a) ways)
     → All (IsWayOf s) ways → LeadsAlong lists s made
@@ -67,7 +67,7 @@ leads-along {lists} s n made ways same stands steps account there =
     subst (LeadsAlong lists s) (sym same) along
 
 -- two ways of a standing
-pub both-ways : (s : Standing) (a b : Way) → IsWayOf s a → IsWayOf s b → All (IsWayOf s) (a ∷ b ∷ [])
+pub both-ways : (s : Standing) (a b : WayOn) → IsWayOf s a → IsWayOf s b → All (IsWayOf s) (a ∷ b ∷ [])
 both-ways s a b here there =
     All-cons (IsWayOf s) a (b ∷ []) here (All-cons (IsWayOf s) b [] there (All-nil (IsWayOf s)))
 

@@ -18,8 +18,8 @@ use Rattle.nomos_check.specs.Accounting.{accounts_after}
 use Rattle.nomos_check.specs.Reaching.{Outset, GetsTo}
 use Rattle.nomos_check.specs.declared.standing.Forks.{Forks}
 use Rattle.nomos_check.specs.declared.standing.Standing.{Standing}
-use Rattle.nomos_check.specs.declared.standing.Way.{Way}
-use Rattle.nomos_check.specs.declared.walk.Walk.{Walk}
+use Rattle.nomos_check.specs.declared.standing.WayOn.{WayOn}
+use Rattle.nomos_check.specs.declared.code_walk.CodeWalk.{CodeWalk}
 use Rattle.nomos_check.specs.mirror.StandingData.{shape_of, HasAccount, LeadsTo, LeadsAlong, way_shape, way_account}
 use Rattle.nomos_check.specs.mirror.Walking.{LeadsFrom, IsDone, AtStanding, IsPending, IsReached, IsOpen, Visits}
 
@@ -69,7 +69,7 @@ leads-cases {lists} {j} {a} {i} {c} (GetsTo.next {j = k} {a = b} n after before 
 pub pairs-parts : (j k : Judgement) (a b : Account) → ◌≡◌ {A = Judgement × Account} (j, a) (k, b) → (j ≡ k) × (a ≡ b)
 pairs-parts j k a b same = (ap (λ (q : Judgement × Account). q.0) same, ap (λ (q : Judgement × Account). q.1) same)
 
-module _ {lists : ProgramLists} (is_program : IsProgram lists) {s : Standing} {old new : Walk}
+module _ {lists : ProgramLists} (is_program : IsProgram lists) {s : Standing} {old new : CodeWalk}
     (visits : Visits lists s old new) where
   done-there : {j : Judgement} {a b : Account} → HasAccount (star_count lists) s b → shape_of s ≡ j → b ≡ a
       → IsDone lists (star_count lists) new j a
@@ -114,7 +114,7 @@ module _ {lists : ProgramLists} (is_program : IsProgram lists) {s : Standing} {o
       (leads-cases at.leads)
 
 -- several ways
-pub leaves-along : {lists : ProgramLists} (is_program : IsProgram lists) (f : Forks) {old new : Walk}
+pub leaves-along : {lists : ProgramLists} (is_program : IsProgram lists) (f : Forks) {old new : CodeWalk}
     → Visits lists f.before old new → LeadsAlong lists f.before f.ways.items → (j : Judgement) (a : Account)
     → AtStanding lists (star_count lists) f.before j a
     → IsDone lists (star_count lists) new j a ⊎ IsPending lists (star_count lists) (f ∷ []) j a
@@ -126,7 +126,7 @@ leaves-along {lists} is_program f {old} {new} visits leads j a at =
     let is = leads.account over.node at.account over.stands at.has in
     let all : over.after ≡ map (way_shape (shape_of s)) ways = row-unique no_amounts is_program over.row leads.row in
     let Among : List Judgement → List Account → Type 0 = λ l m. Contains (zip l m) (over.judgement, over.account) in
-    let lead : Way → Judgement × Account = λ w. (way_shape (shape_of s) w, way_account at.account w) in
+    let lead : WayOn → Judgement × Account = λ w. (way_shape (shape_of s) w, way_account at.account w) in
     let paired : Contains (zip (map (way_shape (shape_of s)) ways) (map (way_account at.account) ways))
     (over.judgement, over.account) =
     subst (Among (map (way_shape (shape_of s)) ways)) is
@@ -175,7 +175,7 @@ module _ {lists : ProgramLists} {o : Outset} where
       let after = map (way_shape (shape_of s)) ways in
       let (n, stands, says) = row-at leads.row in
       let is = leads.account n r.account stands r.has in
-      let lead : Way → Judgement × Account = λ w. (way_shape (shape_of s) w, way_account r.account w) in
+      let lead : WayOn → Judgement × Account = λ w. (way_shape (shape_of s) w, way_account r.account w) in
       record {
         account = r.account;
         has = r.has;

@@ -16,12 +16,12 @@ use Rattle.nomos_check.specs.Account.{Account, spends, with_lists, form_of}
 use Rattle.nomos_check.specs.Accounting.{grows_list, parts_list}
 use Rattle.nomos_check.specs.declared.operands.Adding.{Adding}
 use Rattle.nomos_check.specs.declared.operands.Matching.{Matching}
-use Rattle.nomos_check.specs.declared.standing.Parts.{Parts}
-use Rattle.nomos_check.specs.declared.standing.Way.{Way}
-use Rattle.nomos_check.specs.declared.standing.Way.TheVariants as way
+use Rattle.nomos_check.specs.declared.standing.ListParts.{ListParts}
+use Rattle.nomos_check.specs.declared.standing.WayOn.{WayOn}
+use Rattle.nomos_check.specs.declared.standing.WayOn.TheVariants as way
 use Rattle.nomos_check.specs.declared.standing.Carried.{Carried}
 use Rattle.nomos_check.specs.declared.standing.Standing.{Standing}
-use Rattle.nomos_check.specs.mirror.Finding.{FindsList}
+use Rattle.nomos_check.specs.mirror.FoundWrong.{FindsList}
 use Rattle.nomos_check.specs.mirror.StandingData.{shape_of, shape_of_list, amount_of, HasAccount, LeadsTo, LeadsAlong}
 use Rattle.nomos_check.proofs.LeadLemmas.{leads-with, leads-along, both-ways}
 use Rattle.nomos_check.proofs.StepRows.{empty-steps, add-steps, match-steps}
@@ -116,7 +116,7 @@ add-leads lists s at it c ls p is spent stands (says, found) =
     ))
 
 -- a list is taken apart
-pub match-leads : (lists : ProgramLists) (s : Standing) (at : ℕ) (it : Matching) (c : Carried) (made : List Way)
+pub match-leads : (lists : ProgramLists) (s : Standing) (at : ℕ) (it : Matching) (c : Carried) (made : List WayOn)
     → made ≡ way.Empty it.list it.empty_next ∷ way.Full (record {
       list = it.list;
       carried = c;
@@ -129,7 +129,14 @@ pub match-leads : (lists : ProgramLists) (s : Standing) (at : ℕ) (it : Matchin
     → TakesApart (shape_of s) it.list it.head it.tail (shape_of_list c) × (bound_to it.list.0 s.lists ≡ Some c)
     → LeadsAlong lists s made
 match-leads lists s at it c made is stands (says, found) =
-    let parts : Parts = record { list = it.list; carried = c; head = it.head; tail = it.tail; next = it.full_next } in
+    let parts : ListParts = record {
+      list = it.list;
+      carried = c;
+      head = it.head;
+      tail = it.tail;
+      next =
+          it.full_next;
+    } in
     let first = way.Empty it.list it.empty_next in
     let second = way.Full parts in
     leads-along s (code.Match at it.list it.empty_next it.head it.tail it.full_next) made

@@ -14,7 +14,7 @@ use Rattle.std.specs.Ordering.{match_ordering, nat_cmp, is_lt}
 use Rattle.nomos_ir.specs.Bindings.{bound_to, bind, unbind, by_number, IsAscending}
 use Rattle.nomos_ir.specs.declared.ids.VarId.{VarId}
 use Rattle.nomos_ir.proofs.BindingLaws.{bind-ascending}
-use Rattle.nomos_check.specs.mirror.Places.{StandsAt, PartsAt, IsPlaceOf}
+use Rattle.nomos_check.specs.mirror.VariablePlaces.{StandsAt, PartsAt, IsPlaceOf}
 
 module _ {X : Type 0} (v : VarId) where
   abbrev Lower : VarId × X → Type 0

@@ -27,7 +27,7 @@ use Rattle.nomos_types.specs.Modes.{HasMode, carried_mode, may_hold, part_modes}
 use Rattle.nomos_types.specs.Typed.{IsWellFormed}
 use Rattle.nomos_types.specs.Judgement.{Judgement, IsFree, SuitsMode, channel_type}
 use Rattle.nomos_types.specs.Premises.{HasType, by_side, SendsLabel, SendsValue, ReceivesValue, Acquires, Releases}
-use Rattle.nomos_check.specs.mirror.Finding.{IsFound}
+use Rattle.nomos_check.specs.mirror.FoundWrong.{IsFound}
 use Rattle.nomos_check.proofs.ChannelLaws.{head-unique}
 
 module _ (lists : ProgramLists) (j : Judgement) where

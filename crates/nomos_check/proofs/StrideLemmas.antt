@@ -18,13 +18,13 @@ use Rattle.nomos_check.specs.declared.standing.Forks.{Forks}
 use Rattle.nomos_check.specs.declared.standing.Standing.{Standing}
 use Rattle.nomos_check.specs.declared.standing.Step.{Step}
 use Rattle.nomos_check.specs.declared.standing.Step.TheVariants as step
-use Rattle.nomos_check.specs.declared.walk.Stuck.{Stuck}
-use Rattle.nomos_check.specs.declared.walk.Walk.{Walk}
+use Rattle.nomos_check.specs.declared.code_walk.Stuck.{Stuck}
+use Rattle.nomos_check.specs.declared.code_walk.CodeWalk.{CodeWalk}
 use Rattle.nomos_check.specs.mirror.StandingData.{shape_of, HasAccount, NoRow, LeadsTo, LeadsAlong, StepTells, StepAsks, JoinsAsked}
 use Rattle.nomos_check.specs.mirror.Stops.{first_stuck}
 use Rattle.nomos_check.specs.mirror.Walking.{HasRow, Notes, Visits, Going, Goes, IsOnWay, Takes}
 
-module _ (lists : ProgramLists) (s : Standing) (old noted : Walk) (notes : Notes lists s old noted)
+module _ (lists : ProgramLists) (s : Standing) (old noted : CodeWalk) (notes : Notes lists s old noted)
     (asked : Asked) where
   -- what is asked for and what is left to do do not matter to what is kept
   takes-beside : {todo : List Forks} {stuck : Option Stuck}
@@ -75,7 +75,7 @@ module _ (lists : ProgramLists) (s : Standing) (old noted : Walk) (notes : Notes
         });
       }
 
-module _ (lists : ProgramLists) (formed : IsWellFormed lists) (first s next : Standing) (old between noted : Walk)
+module _ (lists : ProgramLists) (formed : IsWellFormed lists) (first s next : Standing) (old between noted : CodeWalk)
     (asked : Asked) (going : Going lists (star_count lists) first s old between) (notes : Notes lists s between noted)
     (on_way : IsOnWay lists (star_count lists) s) (found : Step) (tells : StepTells lists s next found)
     (asks : StepAsks lists s noted.asked asked found) where
@@ -98,7 +98,7 @@ module _ (lists : ProgramLists) (formed : IsWellFormed lists) (first s next : St
       })
   stride-stops is n stands =
       let none : NoRow lists (shape_of s) = subst (StepTells lists s next) is tells in
-      let new : Walk = record noted {
+      let new : CodeWalk = record noted {
         asked = asked;
         stuck = first_stuck noted.stuck
             (record { at = code_offset n; form = code_form n });
@@ -135,7 +135,7 @@ module _ (lists : ProgramLists) (formed : IsWellFormed lists) (first s next : St
       → todo ≡ f ∷ noted.todo → Goes lists (star_count lists) first old (record noted { asked = asked; todo = todo })
   stride-parts f before is todo put =
       let n = star_count lists in
-      let new : Walk = record noted { asked = asked; todo = todo } in
+      let new : CodeWalk = record noted { asked = asked; todo = todo } in
       let parts : LeadsAlong lists s f.ways.items × (next ≡ s) = subst (StepTells lists s next) is tells in
       let joins : JoinsAsked lists s noted.asked asked = subst (StepAsks lists s noted.asked asked) is asks in
       let same : s ≡ f.before = sym (before ∙ parts.1) in

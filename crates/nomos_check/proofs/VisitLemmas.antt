@@ -11,8 +11,8 @@ use Rattle.nomos_check.specs.Account.{Account}
 use Rattle.nomos_ir.specs.Instruction.{code_offset, code_form}
 use Rattle.nomos_check.specs.Reaching.{Outset, IsFormOf}
 use Rattle.nomos_check.specs.declared.standing.Standing.{Standing}
-use Rattle.nomos_check.specs.declared.walk.Stuck.{Stuck}
-use Rattle.nomos_check.specs.declared.walk.Walk.{Walk}
+use Rattle.nomos_check.specs.declared.code_walk.Stuck.{Stuck}
+use Rattle.nomos_check.specs.declared.code_walk.CodeWalk.{CodeWalk}
 use Rattle.nomos_check.specs.mirror.Walking.{IsReached, IsFormAt, IsStuckBy, IsDone, Grows, Gathers, StuckOf, IsFirstStop, Visits}
 use Rattle.nomos_check.specs.mirror.StandingData.{shape_of, HasAccount}
 use Rattle.nomos_check.specs.InHand.{IsWanted, IsPotentialAt}
@@ -21,7 +21,7 @@ use Rattle.nomos_check.specs.InHand.{IsWanted, IsPotentialAt}
 abbrev stop_of : CodeNode → Stuck
 stop_of n = record { at = code_offset n; form = code_form n }
 
-module _ {lists : ProgramLists} {s : Standing} {old new : Walk} (visits : Visits lists s old new) where
+module _ {lists : ProgramLists} {s : Standing} {old new : CodeWalk} (visits : Visits lists s old new) where
   -- what is gathered grows
   pub visits-grows : (a : Account) → HasAccount (star_count lists) s a → Grows old new
   visits-grows a has = record {

@@ -17,15 +17,15 @@ use Rattle.nomos_check.specs.Account.{Account}
 use Rattle.nomos_check.specs.Reaching.{Outset, GetsTo}
 use Rattle.nomos_check.specs.declared.standing.Forks.{Forks}
 use Rattle.nomos_check.specs.declared.standing.Standing.{Standing}
-use Rattle.nomos_check.specs.declared.standing.Way.{Way}
-use Rattle.nomos_check.specs.declared.standing.Way.TheVariants as way
-use Rattle.nomos_check.specs.declared.walk.Walk.{Walk}
+use Rattle.nomos_check.specs.declared.standing.WayOn.{WayOn}
+use Rattle.nomos_check.specs.declared.standing.WayOn.TheVariants as way
+use Rattle.nomos_check.specs.declared.code_walk.CodeWalk.{CodeWalk}
 use Rattle.nomos_check.specs.mirror.StandingData.{shape_of, HasAccount, IsWithin, IsWayOf, way_shape, way_account}
 use Rattle.nomos_check.specs.mirror.Walking.{IsReached, LeadsFrom, IsDone, Grows, Gathers, AtStanding, AlongWay, IsPending, IsOpen, IsOnWay, IsWalk, WalksOn, Walking, Goes, way_next, weight, width, forks_work, work}
 use Rattle.nomos_check.specs.mirror.Ways.{HasWayRoom, GoesWay}
 
 -- what is left to do beside does not matter
-grows-beside : (w : Walk) (todo : List Forks) → Grows w (record w { todo = todo })
+grows-beside : (w : CodeWalk) (todo : List Forks) → Grows w (record w { todo = todo })
 grows-beside w todo = record {
   forms = λ f among. among;
   pairs = λ free pair has. has;
@@ -34,7 +34,7 @@ grows-beside w todo = record {
   places = record { wanted = refl; kept = λ t among. among; noted = λ e among. among };
 }
 
-gathers-beside : {lists : ProgramLists} {n : ℕ} {o : Outset} (w : Walk) (todo : List Forks)
+gathers-beside : {lists : ProgramLists} {n : ℕ} {o : Outset} (w : CodeWalk) (todo : List Forks)
     → Gathers lists n o w (record w { todo = todo })
 gathers-beside w todo = record {
   forms = λ f among. inl among;
@@ -44,7 +44,7 @@ gathers-beside w todo = record {
   potentials = λ e among. inl among;
 }
 
-pub walks-beside : (lists : ProgramLists) (n : ℕ) (todo : List Forks) (w : Walk) (beside : List Forks)
+pub walks-beside : (lists : ProgramLists) (n : ℕ) (todo : List Forks) (w : CodeWalk) (beside : List Forks)
     → WalksOn lists n todo w todo (record w { todo = beside })
 walks-beside lists n todo w beside = λ o first walking. record {
   complete = λ j a leads. ⊎_elim (λ done. inl (done-grows (grows-beside w beside) done)) (λ left. inr left)
@@ -54,7 +54,7 @@ walks-beside lists n todo w beside = λ o first walking. record {
   is_open = walking.is_open;
 }
 
-module _ (lists : ProgramLists) (n : ℕ) (f : Forks) (todo : List Forks) (w : Walk) where
+module _ (lists : ProgramLists) (n : ℕ) (f : Forks) (todo : List Forks) (w : CodeWalk) where
   -- no way is left
   pub walks-none : f.ways.items ≡ [] → WalksOn lists n (f ∷ todo) w todo w
   walks-none none = λ o first walking. record {
@@ -65,7 +65,7 @@ module _ (lists : ProgramLists) (n : ℕ) (f : Forks) (todo : List Forks) (w : W
         ⊎_elim
         (λ here.
         let ways = ap (λ (g : Forks). g.ways.items) here in
-        absurd (contains-none left.way (subst (λ (l : List Way). Contains l left.way) (sym ways ∙ none) left.inside)))
+        absurd (contains-none left.way (subst (λ (l : List WayOn). Contains l left.way) (sym ways ∙ none) left.inside)))
         (λ later. inr (record {
           forks = left.forks;
           among = later;
@@ -82,11 +82,11 @@ module _ (lists : ProgramLists) (n : ℕ) (f : Forks) (todo : List Forks) (w : W
   }
 
   -- one way is gone
-  module _ (rest : Forks) (before : rest.before ≡ f.before) (taken : Way)
+  module _ (rest : Forks) (before : rest.before ≡ f.before) (taken : WayOn)
       (all : f.ways.items ≡ rest.ways.items ++ taken ∷ [])
       (s : Standing) (goes_way : GoesWay f.before taken s) where
     inside-all : Contains f.ways.items taken
-    inside-all = subst (λ (l : List Way). Contains l taken) (sym all) (Contains-push rest.ways.items taken)
+    inside-all = subst (λ (l : List WayOn). Contains l taken) (sym all) (Contains-push rest.ways.items taken)
 
     pub way-reached : (o : Outset) → IsOpen lists n o f → IsReached lists n o s
     way-reached o is_open = record {
@@ -106,7 +106,7 @@ module _ (lists : ProgramLists) (n : ℕ) (f : Forks) (todo : List Forks) (w : W
           (sym goes_way.shape) along.leads;
     }
 
-    along-rest : (v : Way) (j : Judgement) (a : Account) → AlongWay lists n f v j a → AlongWay lists n rest v j a
+    along-rest : (v : WayOn) (j : Judgement) (a : Account) → AlongWay lists n f v j a → AlongWay lists n rest v j a
     along-rest v j a along = record {
       account = along.account;
       has = subst (λ (k : Standing). HasAccount n k along.account) (sym before) along.has;
@@ -127,19 +127,19 @@ module _ (lists : ProgramLists) (n : ℕ) (f : Forks) (todo : List Forks) (w : W
               λ v inside.
               subst (λ (k : Standing). GetsTo lists o (way_shape (shape_of k) v) (way_account is_open.account v))
               (sym before)
-              (is_open.reached v (subst (λ (l : List Way). Contains l v) (sym all)
+              (is_open.reached v (subst (λ (l : List WayOn). Contains l v) (sym all)
               (Contains-append_left rest.ways.items (taken ∷ []) v inside)));
         }
 
     -- the others are left to do, with what is added
-    pub walks-way : (new : Walk) → Goes lists n s (record w { todo = rest ∷ todo }) new
+    pub walks-way : (new : CodeWalk) → Goes lists n s (record w { todo = rest ∷ todo }) new
         → WalksOn lists n (f ∷ todo) w new.todo new
     walks-way new goes = λ o first walking.
         let is_open = All-head (IsOpen lists n o) f todo walking.is_open in
         let reached = way-reached o is_open in
         let grows = grows-through (grows-beside w (rest ∷ todo)) goes.grows in
         let Left : Judgement → Account → Type 0 = λ j a. IsDone lists n new j a ⊎ IsPending lists n new.todo j a in
-        let put : (j : Judgement) (a : Account) (g : Forks) (v : Way) → Contains (goes.added ++ rest ∷ todo) g
+        let put : (j : Judgement) (a : Account) (g : Forks) (v : WayOn) → Contains (goes.added ++ rest ∷ todo) g
         → Contains g.ways.items v → AlongWay lists n g v j a → Left j a =
         λ j a g v among inside along.
         inr (record {
@@ -162,7 +162,7 @@ module _ (lists : ProgramLists) (n : ℕ) (f : Forks) (todo : List Forks) (w : W
               let along : AlongWay lists n f v j a = subst (λ (g : Forks). AlongWay lists n g v j a)
               (sym here) left.along in
               let ways = ap (λ (g : Forks). g.ways.items) here in
-              let inside : Contains (rest.ways.items ++ taken ∷ []) v = subst (λ (l : List Way). Contains l v)
+              let inside : Contains (rest.ways.items ++ taken ∷ []) v = subst (λ (l : List WayOn). Contains l v)
               (sym ways ∙ all) left.inside in
               ⊎_elim
               (λ early.
@@ -170,7 +170,7 @@ module _ (lists : ProgramLists) (n : ℕ) (f : Forks) (todo : List Forks) (w : W
               (contains-head rest rest todo refl)) early
               (along-rest v j a along))
               (λ same.
-              let mine : AlongWay lists n f taken j a = subst (λ (u : Way). AlongWay lists n f u j a)
+              let mine : AlongWay lists n f taken j a = subst (λ (u : WayOn). AlongWay lists n f u j a)
               (sym same) along in
               ⊎_elim (λ done. inl done)
               (λ (added : IsPending lists n goes.added j a).
@@ -196,11 +196,11 @@ module _ (lists : ProgramLists) (n : ℕ) (f : Forks) (todo : List Forks) (w : W
         }
 
     -- and less is left to do
-    pub way-light : (new : Walk) → Goes lists n s (record w { todo = rest ∷ todo }) new
+    pub way-light : (new : CodeWalk) → Goes lists n s (record w { todo = rest ∷ todo }) new
         → work (width lists) new.todo < work (width lists) (f ∷ todo)
     way-light new goes =
         let b = width lists in
-        let of_way : Way → ℕ = λ v. weight b (way_next v) in
+        let of_way : WayOn → ℕ = λ v. weight b (way_next v) in
         let code : s.code.0 ≡ way_next taken = ap place goes_way.shape ∙ way-place (shape_of f.before) taken in
         let lighter = goes.light in
         let same : weight b s.code.0 ≡ weight b (way_next taken) = ap (weight b) code in
@@ -219,7 +219,7 @@ module _ (lists : ProgramLists) (n : ℕ) (f : Forks) (todo : List Forks) (w : W
         )
 
 -- there is room for what a way frees
-room-by : {lists : ProgramLists} (s : Standing) (v : Way) → IsWellFormed lists → IsWithin lists s → IsWayOf s v
+room-by : {lists : ProgramLists} (s : Standing) (v : WayOn) → IsWellFormed lists → IsWithin lists s → IsWayOf s v
     → HasWayRoom s v
 room-by s (way.Label c t next) formed within there = tt
 room-by s (way.Truth next) formed within there = tt
@@ -227,12 +227,12 @@ room-by s (way.Empty u next) formed within there = tt
 room-by s (way.Full p) formed within there =
     room-at formed.program s p.carried.amount within (list-amount s p.list.0 p.carried within there)
 
-module _ {lists : ProgramLists} (f : Forks) (todo : List Forks) (w : Walk) (formed : IsWellFormed lists)
+module _ {lists : ProgramLists} (f : Forks) (todo : List Forks) (w : CodeWalk) (formed : IsWellFormed lists)
     (walk : IsWalk lists (star_count lists) (f ∷ todo) w) where
   first-open : IsOpen lists (star_count lists) walk.outset f
   first-open = All-head (IsOpen lists (star_count lists) walk.outset) f todo walk.walking.is_open
 
-  pub way-room : (v : Way) → Contains f.ways.items v → HasWayRoom f.before v
+  pub way-room : (v : WayOn) → Contains f.ways.items v → HasWayRoom f.before v
   way-room v inside =
       let on_way : IsOnWay lists (star_count lists) f.before = record {
         outset = walk.outset;
@@ -242,7 +242,7 @@ module _ {lists : ProgramLists} (f : Forks) (todo : List Forks) (w : Walk) (form
       room-by f.before v formed (within-on_way f.before on_way)
       (All-contains (IsWayOf f.before) f.ways.items v first-open.there inside)
 
-  pub way-on_way : (rest : Forks) → rest.before ≡ f.before → (taken : Way)
+  pub way-on_way : (rest : Forks) → rest.before ≡ f.before → (taken : WayOn)
       → f.ways.items ≡ rest.ways.items ++ taken ∷ []
       → (s : Standing) → GoesWay f.before taken s → IsOnWay lists (star_count lists) s
   way-on_way rest before taken all s goes_way = record {
@@ -255,7 +255,8 @@ module _ {lists : ProgramLists} (f : Forks) (todo : List Forks) (w : Walk) (form
 
 module _ (lists : ProgramLists) (n : ℕ) where
   -- a walk goes on
-  pub walk-on : (todo : List Forks) (old : Walk) (rest : List Forks) (new : Walk) → WalksOn lists n todo old rest new
+  pub walk-on : (todo : List Forks) (old : CodeWalk) (rest : List Forks) (new : CodeWalk)
+      → WalksOn lists n todo old rest new
       → IsWalk lists n todo old → IsWalk lists n rest new
   walk-on todo old rest new on walk = record {
     outset = walk.outset;
@@ -264,17 +265,18 @@ module _ (lists : ProgramLists) (n : ℕ) where
     walking = on walk.outset walk.first walk.walking;
   }
 
-  pub walk-beside : (todo : List Forks) (w : Walk) (beside : List Forks) → IsWalk lists n todo w
+  pub walk-beside : (todo : List Forks) (w : CodeWalk) (beside : List Forks) → IsWalk lists n todo w
       → IsWalk lists n todo (record w { todo = beside })
   walk-beside todo w beside walk =
       walk-on todo w todo (record w { todo = beside }) (walks-beside lists n todo w beside) walk
 
-  pub walks-through : {todo between rest : List Forks} {old mid new : Walk} → WalksOn lists n between mid rest new
+  pub walks-through : {todo between rest : List Forks} {old mid new : CodeWalk} → WalksOn lists n between mid rest new
       → WalksOn lists n todo old between mid → WalksOn lists n todo old rest new
   walks-through second first = λ o w walking. second o w (first o w walking)
 
   -- a way was taken from what was left to do
-  pub popped-walks : (todo : List Forks) (w : Walk) (f : Forks) (rest : List Forks) (new : Walk) → todo ≡ f ∷ rest
+  pub popped-walks : (todo : List Forks) (w : CodeWalk) (f : Forks) (rest : List Forks) (new : CodeWalk)
+      → todo ≡ f ∷ rest
       → WalksOn lists n (f ∷ rest) (record w { todo = rest }) new.todo new → WalksOn lists n todo w new.todo new
   popped-walks todo w f rest new is on = λ o first walking.
       on o first

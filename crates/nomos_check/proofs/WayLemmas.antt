@@ -9,14 +9,14 @@ use Rattle.nomos_forms.specs.declared.form.Form.{Form}
 use Rattle.nomos_types.specs.Judgement.{Judgement, ListType}
 use Rattle.nomos_check.specs.Account.{Account, gains, form_of}
 use Rattle.nomos_check.specs.declared.standing.Carried.{Carried}
-use Rattle.nomos_check.specs.declared.standing.Parts.{Parts}
+use Rattle.nomos_check.specs.declared.standing.ListParts.{ListParts}
 use Rattle.nomos_check.specs.declared.standing.Standing.{Standing}
-use Rattle.nomos_check.specs.declared.standing.Way.TheVariants as way
+use Rattle.nomos_check.specs.declared.standing.WayOn.TheVariants as way
 use Rattle.nomos_check.specs.mirror.StandingData.{shape_of, shape_of_list, amount_of}
 use Rattle.nomos_check.specs.mirror.Ways.{GoesWay}
 
 -- a list is taken apart
-pub full-goes : (s : Standing) (p : Parts) (kinds : List (VarId × Kind)) (lists : List (VarId
+pub full-goes : (s : Standing) (p : ListParts) (kinds : List (VarId × Kind)) (lists : List (VarId
     × Carried)) (potential : Form)
     → kinds ≡ bind p.head p.carried.kind s.kinds → lists ≡ bind p.tail p.carried (unbind p.list.0 s.lists)
     → ((n : ℕ) (a : Account) → s.potential ≡ form_of n a → potential ≡ form_of n (gains p.carried.amount a))

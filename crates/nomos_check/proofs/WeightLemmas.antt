@@ -19,8 +19,8 @@ use Rattle.nomos_types.specs.Typed.{IsWellFormed}
 use Rattle.nomos_check.proofs.ListLemmas.{contains-map}
 use Rattle.nomos_check.proofs.StarLaws.{at_most-greatest}
 use Rattle.nomos_check.specs.declared.standing.Forks.{Forks}
-use Rattle.nomos_check.specs.declared.standing.Way.{Way}
-use Rattle.nomos_check.specs.declared.standing.Way.TheVariants as way
+use Rattle.nomos_check.specs.declared.standing.WayOn.{WayOn}
+use Rattle.nomos_check.specs.declared.standing.WayOn.TheVariants as way
 use Rattle.nomos_check.specs.mirror.StandingData.{shape_of, way_shape, LeadsAlong}
 use Rattle.nomos_check.specs.mirror.Walking.{width, weight, way_next, forks_work, work}
 
@@ -45,21 +45,22 @@ few-times : (n b m : ℕ) → n ≤ b → n * m ≤ b * m
 few-times n b m few = mul-le-mul_right m few
 
 -- ways to instructions with lower numbers are less to do than the instruction
-light-ways : (b p : ℕ) (ways : List Way) → length ways ≤ b → All (λ w. way_next w < p) ways
+light-ways : (b p : ℕ) (ways : List WayOn) → length ways ≤ b → All (λ w. way_next w < p) ways
     → 1 + sum_by (λ w. weight b (way_next w)) ways < weight b p
 light-ways b zero ways few lower =
-    let none = sum_by-le (λ (w : Way). weight b (way_next w)) 0 ways (All-weaker (λ (w : Way). way_next w < 0) (λ
-    (w : Way). weight b (way_next w) ≤ 0) (λ w below. absurd (omega arith)) ways lower) in
+    let none = sum_by-le (λ (w : WayOn). weight b (way_next w)) 0 ways (All-weaker (λ (w : WayOn). way_next w < 0) (λ
+    (w : WayOn). weight b (way_next w) ≤ 0) (λ w below. absurd (omega arith)) ways lower) in
     omega arith
 light-ways b (suc p) ways few lower =
     let m = weight b p in
-    let most = sum_by-le (λ (w : Way). weight b (way_next w)) m ways (All-weaker (λ (w : Way). way_next w < suc p) (λ
-    (w : Way). weight b (way_next w) ≤ m) (λ w below. weight-rises b (way_next w) p (omega arith)) ways lower) in
+    let most = sum_by-le (λ (w : WayOn). weight b (way_next w)) m ways
+    (All-weaker (λ (w : WayOn). way_next w < suc p) (λ
+    (w : WayOn). weight b (way_next w) ≤ m) (λ w below. weight-rises b (way_next w) p (omega arith)) ways lower) in
     let times = few-times (length ways) b m few in
     omega (arith, weight-positive b p, doubled b m)
 
 -- a way leads to its instruction
-pub way-place : (j : Judgement) (w : Way) → place (way_shape j w) ≡ way_next w
+pub way-place : (j : Judgement) (w : WayOn) → place (way_shape j w) ≡ way_next w
 way-place j (way.Label chan.Own t next) = refl
 way-place j (way.Label (chan.Var v) t next) = refl
 way-place j (way.Truth next) = refl
@@ -82,7 +83,7 @@ forks-light {lists} f formed leads =
     (contains-found lists.code s.code.0 n stands) in
     let few : length ways ≤ width lists = omega (arith, count, at_most-greatest counts (length (code_next n)) among) in
     let lower : All (λ w. way_next w < s.code.0) ways =
-    All-weaker (Contains ways) (λ (w : Way). way_next w < s.code.0)
+    All-weaker (Contains ways) (λ (w : WayOn). way_next w < s.code.0)
     (λ w inside. omega (
       arith,
       row-descends formed leads.row (contains-map (way_shape

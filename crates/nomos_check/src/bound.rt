@@ -1,7 +1,7 @@
 //! What is bound to variables.
 ghost use Rattle.std.specs.Prelude.{◌≡◌, ◌↔◌, IsTrue, IfOk, OnOk, OnErr, [], option_copied};
 ghost use Rattle.nomos_ir.specs.Bindings.{bound_to, bind, unbind, IsAscending};
-ghost use Rattle.nomos_check.specs.mirror.Places.{IsPlaceOf};
+ghost use Rattle.nomos_check.specs.mirror.VariablePlaces.{IsPlaceOf};
 
 use nomos_ir::ids::VarId;
 use nomos_ir::items::Items;

@@ -3,10 +3,10 @@ ghost use Rattle.std.specs.Prelude.{◌≡◌, ℕ, IfOk, OnOk};
 ghost use Rattle.nomos_check.specs.Account.{Account};
 ghost use Rattle.nomos_check.specs.mirror.StandingData.{shape_of, HasAccount, way_shape, way_account};
 ghost use Rattle.nomos_check.specs.mirror.Ways.{HasWayRoom, GoesWay};
-ghost use Rattle.nomos_check.specs.declared.standing.Way.{Way};
+ghost use Rattle.nomos_check.specs.declared.standing.WayOn.{WayOn};
 
-use crate::channels::go_on;
-use crate::standing::{Parts, Standing, Way};
+use crate::in_hand::go_on;
+use crate::standing::{ListParts, Standing, WayOn};
 use std::alloc::{AllocError, Global};
 
 /// What is bound is bound there too.
@@ -41,9 +41,9 @@ pub(crate) fn copy_of(alloc: Global, now: &Standing) -> Result<Standing, AllocEr
 }
 
 /// The list is taken apart.
-fn take_parts(now: &mut Standing, parts: Parts) -> Result<(), AllocError>
-    requires { HasWayRoom now.old (Way.Full parts) }
-    ensures { OnOk result (GoesWay now.old (Way.Full parts) now.new) }
+fn take_parts(now: &mut Standing, parts: ListParts) -> Result<(), AllocError>
+    requires { HasWayRoom now.old (WayOn.Full parts) }
+    ensures { OnOk result (GoesWay now.old (WayOn.Full parts) now.new) }
 {
     now.lists.unbind(parts.list);
     now.lists.bind(parts.tail, parts.carried)?;
@@ -54,27 +54,27 @@ fn take_parts(now: &mut Standing, parts: Parts) -> Result<(), AllocError>
 }
 
 /// The process goes the way.
-fn go_way(now: &mut Standing, way: Way) -> Result<(), AllocError>
+fn go_way(now: &mut Standing, way: WayOn) -> Result<(), AllocError>
     requires { HasWayRoom now.old way }
     ensures { OnOk result (GoesWay now.old way now.new) }
 {
     match way {
-        Way::Label(c, t, next) => go_on(now, c, t, next),
-        Way::Truth(next) => {
+        WayOn::Label(c, t, next) => go_on(now, c, t, next),
+        WayOn::Truth(next) => {
             now.code = next;
             Ok(())
         }
-        Way::Empty(w, next) => {
+        WayOn::Empty(w, next) => {
             now.lists.unbind(w);
             now.code = next;
             Ok(())
         }
-        Way::Full(parts) => take_parts(now, parts),
+        WayOn::Full(parts) => take_parts(now, parts),
     }
 }
 
 /// What the process has in hand where the way begins.
-pub(crate) fn along(alloc: Global, before: &Standing, way: Way) -> Result<Standing, AllocError>
+pub(crate) fn along(alloc: Global, before: &Standing, way: WayOn) -> Result<Standing, AllocError>
     requires { HasWayRoom before.now way }
     ensures { IfOk result (GoesWay before.now way) }
 {

@@ -9,8 +9,8 @@ ghost use Rattle.nomos_check.specs.mirror.Cases.{AreWays, HasArm, HasOddArm};
 ghost use Rattle.nomos_check.specs.mirror.StandingData.{shape_of, IsWithin, StepTells};
 
 use crate::chances::awaits_choice;
-use crate::standing::{Standing, Step, Way};
-use nomos_equality::parts::goes_by;
+use crate::standing::{Standing, Step, WayOn};
+use nomos_equality::node_parts::goes_by;
 use nomos_ir::code_node::{Arm, Chan};
 use nomos_ir::program::Program;
 use nomos_ir::type_node::Branch;
@@ -43,7 +43,7 @@ fn ways_of(
     c: Chan,
     branches: &[Branch],
     arms: &[Arm],
-) -> Result<Option<Vec<Way>>, AllocError>
+) -> Result<Option<Vec<WayOn>>, AllocError>
     ensures { IfOk result (λ found. MatchOption found (HasOddArm branches.now arms.now)
         (λ ways. AreWays c branches.now arms.now ways.items)) }
 {
@@ -53,7 +53,7 @@ fn ways_of(
             Some(goes) => goes,
             None => return Ok(None),
         };
-        ways.push(Way::Label(c, goes, a.goes))?;
+        ways.push(WayOn::Label(c, goes, a.goes))?;
     }
     Ok(Some(ways))
 }

@@ -3,10 +3,10 @@ ghost use Rattle.std.specs.Prelude.{◌≡◌, ◌↔◌, IsTrue, option_copied}
 ghost use Rattle.nomos_ir.specs.declared.type_node.TypeNode.{TypeNode};
 ghost use Rattle.nomos_types.specs.Premises.{HasType, by_side};
 ghost use Rattle.nomos_types.specs.Typed.{IsWellFormed};
-ghost use Rattle.nomos_check.specs.mirror.Finding.{IsFound};
+ghost use Rattle.nomos_check.specs.mirror.FoundWrong.{IsFound};
 ghost use Rattle.nomos_check.specs.mirror.StandingData.{shape_of, IsWithin};
 
-use crate::channels::channel_node;
+use crate::in_hand::channel_node;
 use crate::sides::{
     awaited_choice, behind_down, behind_up, got_amount, is_one, paid_amount, received_channel,
     received_value, sent_channel, sent_choice, sent_value,

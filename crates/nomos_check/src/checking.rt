@@ -15,10 +15,10 @@ ghost use Rattle.nomos_check.specs.Reaching.{outset_of};
 
 use crate::asked::Asked;
 use crate::checker::Checker;
+use crate::code_walk::{CodeWalk, Stuck};
 use crate::going::{go_all, go_along};
 use crate::standing::Standing;
 use crate::start::start;
-use crate::walk::{Stuck, Walk};
 use nomos_equality::equalities::Equalities;
 use nomos_forms::form::{Form, Forms};
 use nomos_ir::amount::Amount;
@@ -54,7 +54,7 @@ pub struct Checked {
 fn gather(
     checker: &Checker,
     program: &Program,
-    walk: &mut Walk<'_>,
+    walk: &mut CodeWalk<'_>,
     p: ProcId,
 ) -> Result<(), AllocError>
     requires formed { IsWellFormed program.now }
@@ -111,9 +111,9 @@ pub fn check_process_with(
 {
     let alloc = checker.alloc;
     let known = mem::replace(equalities, Equalities::new(alloc));
-    let mut walk = Walk::new(alloc, checker.modes.as_slice(), known, &[]);
+    let mut walk = CodeWalk::new(alloc, checker.modes.as_slice(), known, &[]);
     let gathered = gather(checker, program, &mut walk, p);
-    let Walk {
+    let CodeWalk {
         asked,
         forms,
         stuck,
@@ -164,14 +164,14 @@ pub fn standings_of(
         found.potentials) }
 {
     let alloc = checker.alloc;
-    let mut walk = Walk::new(
+    let mut walk = CodeWalk::new(
         alloc,
         checker.modes.as_slice(),
         Equalities::new(alloc),
         wanted,
     );
     gather(checker, program, &mut walk, p)?;
-    let Walk {
+    let CodeWalk {
         asked: _,
         forms: _,
         stuck: _,

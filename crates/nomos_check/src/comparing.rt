@@ -5,7 +5,7 @@ ghost use Rattle.nomos_check.specs.mirror.Passing.{TellsAlike};
 ghost use Rattle.nomos_check.specs.mirror.StandingData.{IsReady, KeepsCompared};
 
 use crate::asked::Asked;
-use crate::modes::{is_mode, mode_of};
+use crate::mode_rules::{is_mode, mode_of};
 use nomos_equality::equality::Comparison;
 use nomos_ir::ids::TypeId;
 use nomos_ir::program::Program;

@@ -6,8 +6,8 @@ ghost use Rattle.nomos_types.specs.Typed.{IsWellFormed};
 ghost use Rattle.nomos_check.specs.mirror.StandingData.{shape_of, IsWithin, StepTells};
 
 use crate::chances::ends;
-use crate::channels::give_up;
-use crate::modes::may_close;
+use crate::in_hand::give_up;
+use crate::mode_rules::may_close;
 use crate::standing::{Standing, Step};
 use nomos_ir::code_node::Chan;
 use nomos_ir::ids::{CodeId, VarId};

@@ -6,9 +6,9 @@ ghost use Rattle.nomos_check.specs.mirror.StandingData.{IsReady, KeepsCompared};
 ghost use Rattle.nomos_check.specs.mirror.Walking.{IsOnWay, Goes, IsWalk, WalksOn, width, work};
 
 use crate::branch::along;
+use crate::code_walk::CodeWalk;
 use crate::standing::{Forks, Standing, Step};
 use crate::step::step;
-use crate::walk::Walk;
 use nomos_ir::program::Program;
 use std::alloc::AllocError;
 
@@ -16,7 +16,7 @@ use std::alloc::AllocError;
 /// left to do.
 pub(crate) fn go_along(
     program: &Program,
-    walk: &mut Walk<'_>,
+    walk: &mut CodeWalk<'_>,
     now: Standing,
 ) -> Result<(), AllocError>
     requires formed { IsWellFormed program.now }
@@ -46,7 +46,7 @@ pub(crate) fn go_along(
 }
 
 /// Goes the last of the ways, if there is one; the others are left to do.
-fn take_way(program: &Program, walk: &mut Walk<'_>, forks: Forks) -> Result<(), AllocError>
+fn take_way(program: &Program, walk: &mut CodeWalk<'_>, forks: Forks) -> Result<(), AllocError>
     requires formed { IsWellFormed program.now }
     requires walk { IsWalk program.now (star_count program.now) (forks ∷ walk.old.todo) walk.old }
     requires ready { IsReady program.now walk.old.asked }
@@ -68,7 +68,7 @@ fn take_way(program: &Program, walk: &mut Walk<'_>, forks: Forks) -> Result<(), 
 }
 
 /// Goes all ways that are left to do.
-pub(crate) fn go_all(program: &Program, walk: &mut Walk<'_>) -> Result<(), AllocError>
+pub(crate) fn go_all(program: &Program, walk: &mut CodeWalk<'_>) -> Result<(), AllocError>
     requires formed { IsWellFormed program.now }
     requires walk { IsWalk program.now (star_count program.now) walk.old.todo walk.old }
     requires ready { IsReady program.now walk.old.asked }

@@ -1,26 +1,27 @@
 //! Whether a process is typed, and which amounts its potential and its types ask for.
 #![tactic(auto)]
 
-mod arguments;
+mod argument_rules;
 mod asked;
 pub mod bound;
 mod branch;
 mod cases;
 mod chances;
-mod channels;
 pub mod checker;
 pub mod checking;
-mod choices;
+mod code_walk;
 mod comparing;
 mod ending;
 mod giving;
 mod going;
-mod lists;
-mod modes;
+mod in_hand;
+mod label_rule;
+mod list_rules;
+mod mode_rules;
 mod operands;
 mod passing;
 mod paying;
-pub mod potential;
+pub mod potential_form;
 mod receiving;
 mod sending;
 mod sharing;
@@ -29,6 +30,5 @@ mod spawning;
 pub mod standing;
 mod start;
 mod step;
-mod values;
+mod value_rules;
 mod variables;
-mod walk;

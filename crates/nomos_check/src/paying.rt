@@ -7,7 +7,7 @@ ghost use Rattle.nomos_check.specs.mirror.StandingData.{shape_of, IsReady, Keeps
 
 use crate::asked::Asked;
 use crate::chances::{gets_amount, pays_amount};
-use crate::channels::go_on;
+use crate::in_hand::go_on;
 use crate::operands::Over;
 use crate::standing::{Standing, Step};
 use nomos_ir::amount::Amount;

@@ -5,12 +5,12 @@ ghost use Rattle.nomos_types.specs.ModeTable.{AreModesOf};
 ghost use Rattle.nomos_types.specs.Premises.{ReceivesChannel};
 ghost use Rattle.nomos_types.specs.TypingRule.{StandsAtCode};
 ghost use Rattle.nomos_types.specs.Typed.{IsWellFormed};
-ghost use Rattle.nomos_check.specs.mirror.Finding.{IsFound};
+ghost use Rattle.nomos_check.specs.mirror.FoundWrong.{IsFound};
 ghost use Rattle.nomos_check.specs.mirror.StandingData.{shape_of, IsWithin, StepTells};
 
 use crate::chances::receives_channel;
-use crate::channels::go_on;
-use crate::modes::mode_of;
+use crate::in_hand::go_on;
+use crate::mode_rules::mode_of;
 use crate::operands::Over;
 use crate::standing::{Standing, Step};
 use crate::variables::{bind_channel, is_free};

@@ -4,14 +4,14 @@ ghost use Rattle.nomos_ir.specs.declared.code_node.Chan.{Chan};
 ghost use Rattle.nomos_ir.specs.declared.code_node.CodeNode.{CodeNode};
 ghost use Rattle.nomos_types.specs.TypingRule.{StandsAtCode};
 ghost use Rattle.nomos_types.specs.Typed.{IsWellFormed};
-ghost use Rattle.nomos_check.specs.mirror.Finding.{IsFound};
+ghost use Rattle.nomos_check.specs.mirror.FoundWrong.{IsFound};
 ghost use Rattle.nomos_check.specs.mirror.StandingData.{shape_of, IsReady, KeepsCompared, IsWithin, StepAsks, StepTells};
 
 use crate::asked::Asked;
 use crate::chances::sends_channel;
-use crate::channels::go_on;
 use crate::comparing::are_alike;
-use crate::modes::is_mode;
+use crate::in_hand::go_on;
+use crate::mode_rules::is_mode;
 use crate::operands::Over;
 use crate::passing::pass_channel;
 use crate::standing::{Standing, Step};

@@ -11,12 +11,12 @@ ghost use Rattle.nomos_types.specs.Modes.{HasMode};
 ghost use Rattle.nomos_types.specs.Premises.{Accepts, Acquires, Detaches, Releases};
 ghost use Rattle.nomos_types.specs.TypingRule.{StandsAtCode};
 ghost use Rattle.nomos_types.specs.Typed.{IsWellFormed};
-ghost use Rattle.nomos_check.specs.mirror.Finding.{IsFound};
+ghost use Rattle.nomos_check.specs.mirror.FoundWrong.{IsFound};
 ghost use Rattle.nomos_check.specs.mirror.StandingData.{shape_of, IsWithin, StepTells};
 
 use crate::chances::{accepts, detaches};
-use crate::channels::give_up;
-use crate::modes::{has_mode, is_mode, may_acquire};
+use crate::in_hand::give_up;
+use crate::mode_rules::{has_mode, is_mode, may_acquire};
 use crate::sides::behind_up;
 use crate::standing::{Standing, Step};
 use crate::variables::{bind_channel, go_to, is_free};

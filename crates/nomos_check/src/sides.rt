@@ -2,7 +2,7 @@
 ghost use Rattle.std.specs.Prelude.{◌≡◌, ◌↔◌, IsTrue, option_copied};
 ghost use Rattle.nomos_ir.specs.declared.type_node.TypeNode.{TypeNode};
 ghost use Rattle.nomos_types.specs.Premises.{by_side};
-ghost use Rattle.nomos_check.specs.mirror.Finding.{IsFound};
+ghost use Rattle.nomos_check.specs.mirror.FoundWrong.{IsFound};
 
 use nomos_ir::amount::Amount;
 use nomos_ir::code_node::Chan;

@@ -5,10 +5,10 @@ ghost use Rattle.nomos_types.specs.TypingRule.{StandsAtCode};
 ghost use Rattle.nomos_types.specs.Typed.{IsWellFormed};
 ghost use Rattle.nomos_check.specs.mirror.StandingData.{shape_of, IsReady, KeepsCompared, IsWithin, StepAsks, StepTells};
 
-use crate::arguments::pass_arguments;
+use crate::argument_rules::pass_arguments;
 use crate::asked::Asked;
 use crate::comparing::are_alike;
-use crate::modes::is_mode;
+use crate::mode_rules::is_mode;
 use crate::operands::Spawning;
 use crate::standing::{Standing, Step};
 use crate::variables::{bind_channel, go_to, is_free};

@@ -2,7 +2,7 @@
 ghost use Rattle.std.specs.Prelude.{◌≡◌, []};
 
 use crate::bound::Bound;
-use crate::potential::Potential;
+use crate::potential_form::PotentialForm;
 use nomos_ir::amount::Amount;
 use nomos_ir::code_node::Chan;
 use nomos_ir::ids::{CodeId, TypeId, VarId};
@@ -26,7 +26,7 @@ pub struct Standing {
     pub lists: Bound<Carried>,
     pub shared: Bound<TypeId>,
     pub linear: Bound<TypeId>,
-    pub potential: Potential,
+    pub potential: PotentialForm,
     pub code: CodeId,
     pub offers: TypeId,
 }
@@ -36,7 +36,7 @@ impl Standing {
     pub(crate) fn unbound(
         alloc: Global,
         mode: Mode,
-        potential: Potential,
+        potential: PotentialForm,
         code: CodeId,
         offers: TypeId,
     ) -> Standing
@@ -66,7 +66,7 @@ impl Standing {
 
 /// A list that is taken apart: its head and its tail, what it carries, and the code with which it goes on.
 #[derive(Clone, Copy)]
-pub(crate) struct Parts {
+pub(crate) struct ListParts {
     pub(crate) list: VarId,
     pub(crate) carried: Carried,
     pub(crate) head: VarId,
@@ -76,7 +76,7 @@ pub(crate) struct Parts {
 
 /// One way on of an instruction that has several.
 #[derive(Clone, Copy)]
-pub(crate) enum Way {
+pub(crate) enum WayOn {
     /// The channel goes on at the type: a branch of a `case`.
     Label(Chan, TypeId, CodeId),
     /// Nothing changes: a code of an `if`.
@@ -84,7 +84,7 @@ pub(crate) enum Way {
     /// The list is empty, and used up: the first code of a `match`.
     Empty(VarId, CodeId),
     /// The list has a head and a tail: the second code of a `match`.
-    Full(Parts),
+    Full(ListParts),
 }
 
 /// Where an instruction leads.
@@ -97,12 +97,12 @@ pub(crate) enum Step {
     /// To one next instruction.
     Next,
     /// On each of these ways.
-    Branches(Vec<Way>),
+    Branches(Vec<WayOn>),
 }
 
 /// Ways that are not gone yet, and what the process has in hand before them.
 #[derive(Drop)]
 pub(crate) struct Forks {
     pub(crate) before: Standing,
-    pub(crate) ways: Vec<Way>,
+    pub(crate) ways: Vec<WayOn>,
 }

@@ -14,8 +14,8 @@ ghost use Rattle.nomos_check.specs.mirror.StartingWalk.{bind_all, carried_par, k
 
 use crate::bound::Bound;
 use crate::checker::Checker;
-use crate::modes::has_mode;
-use crate::potential::Potential;
+use crate::mode_rules::has_mode;
+use crate::potential_form::PotentialForm;
 use crate::standing::{Carried, Standing};
 use nomos_ir::declaration::{Par, ProcDecl};
 use nomos_ir::ids::{ProcId, TypeId, VarId};
@@ -165,7 +165,7 @@ pub(crate) fn start(program: &Program, checker: &Checker, p: ProcId) -> Result<S
         IsStartOf (star_count program.now) (outset_of program.now d) s) }
 {
     let d = program.proc(p);
-    let mut potential = Potential::none(checker.alloc, checker.stars)?;
+    let mut potential = PotentialForm::none(checker.alloc, checker.stars)?;
     potential.gain(d.amount);
     let mut begun = Standing::unbound(checker.alloc, d.mode, potential, d.first, d.offers);
     match bind_parameters(program, checker, d, &mut begun) {

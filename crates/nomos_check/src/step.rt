@@ -5,9 +5,9 @@ ghost use Rattle.nomos_check.specs.mirror.StandingData.{IsReady, KeepsCompared, 
 
 use crate::asked::Asked;
 use crate::cases::at_case;
-use crate::choices::at_label;
 use crate::ending::{at_close, at_wait};
-use crate::lists::{at_add, at_empty, at_match, carrying};
+use crate::label_rule::at_label;
+use crate::list_rules::{at_add, at_empty, at_match, carrying};
 use crate::operands::{Adding, Choosing, Letting, Matching, Over, Spawning};
 use crate::paying::{at_get, at_pay, at_work};
 use crate::receiving::at_recv;
@@ -15,7 +15,7 @@ use crate::sending::{at_fwd, at_send};
 use crate::sharing::{at_accept, at_acquire, at_detach, at_release};
 use crate::spawning::{at_call, at_spawn};
 use crate::standing::{Standing, Step};
-use crate::values::{at_emit, at_if, at_let, at_put, at_take};
+use crate::value_rules::{at_emit, at_if, at_let, at_put, at_take};
 use nomos_ir::code_node::CodeNode;
 use nomos_ir::program::Program;
 use std::alloc::AllocError;

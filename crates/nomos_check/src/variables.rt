@@ -2,7 +2,7 @@
 ghost use Rattle.std.specs.Prelude.{◌≡◌, ◌<◌, ◌↔◌, IsTrue, IfOk, OnOk, length};
 ghost use Rattle.nomos_ir.specs.TermKind.{HasKind};
 ghost use Rattle.nomos_types.specs.Judgement.{IsFree, at_code, binds_channel, binds_value};
-ghost use Rattle.nomos_check.specs.mirror.Finding.{IsFound};
+ghost use Rattle.nomos_check.specs.mirror.FoundWrong.{IsFound};
 ghost use Rattle.nomos_check.specs.mirror.StepMoves.{KeepsAmounts};
 ghost use Rattle.nomos_check.specs.mirror.StandingData.{shape_of};
 

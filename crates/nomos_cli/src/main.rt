@@ -1,7 +1,7 @@
 //! The program: it hands its words, the files that they name and its standard output to `nomos`.
 #![tactic(auto)]
 
-mod words;
+mod file_words;
 
 ghost use Rattle.std.specs.Prelude.{map, string_bytes};
 ghost use Rattle.nomos_cli.specs.FileWords.{Names, contract_file, kept_file, script_file, third_file};
@@ -9,7 +9,7 @@ ghost use Rattle.nomos_due.specs.Outside.{sink_state, source_state};
 ghost use Rattle.nomos_top.specs.Claims.{Claims};
 ghost use Rattle.nomos_top.specs.Turns.{Untouched};
 
-use crate::words::file_words;
+use crate::file_words::file_words;
 use nomos_base::{Sink, Source};
 use nomos_files::{FileSource, OutputSink, OverFile};
 use nomos_top::{Ended, may_wait, nomos, nomos_by_one};
@@ -24,7 +24,7 @@ use std::thread::Threads;
 // What is outside: the files of the contract, of the script and of the third text that are read, which is a journal, a
 // snapshot or what is said in a talk; the standard output, and the file in which a journal or a snapshot is kept.
 #[derive(Drop)]
-struct Outside<S: Drop, K: Drop> {
+struct OutsideWorld<S: Drop, K: Drop> {
     contract: S,
     script: S,
     journal_in: S,
@@ -37,7 +37,7 @@ fn main(rt: HostRuntime) -> ExitCode {
         return ExitCode::from(7);
     };
     let files = file_words(&words);
-    let mut outside = Outside {
+    let mut outside = OutsideWorld {
         contract: FileSource::open(&rt, files.contract),
         script: FileSource::open(&rt, files.script),
         journal_in: FileSource::open(&rt, files.third),
@@ -65,7 +65,7 @@ fn call<
     S: Source + OverFile + Drop,
     K: Sink + OverFile + Drop,
     R: AllocGlobal + Threads + Wait + Sync,
->(rt: &R, words: &[String], outside: &mut Outside<S, K>) -> Ended
+>(rt: &R, words: &[String], outside: &mut OutsideWorld<S, K>) -> Ended
     requires contract { Names contract_file (map string_bytes words.now) (S.word outside.old.contract) }
     requires script { Names script_file (map string_bytes words.now) (S.word outside.old.script) }
     requires journal_in { Names third_file (map string_bytes words.now) (S.word outside.old.journal_in) }

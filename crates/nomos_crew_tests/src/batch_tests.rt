@@ -2,7 +2,7 @@
 ghost use Rattle.std.specs.Prelude.{◌≤◌};
 ghost use Rattle.nomos_workers.specs.Crews.{IsCrew};
 
-use crate::telling::{SAY, accepted_of};
+use crate::crew_telling::{SAY, accepted_of};
 use crate::worlds::{ONE_ACCOUNT, SAY_TWICE, world_of};
 use nomos_ledger::ledger::Ledger;
 use nomos_legal::journal::End;

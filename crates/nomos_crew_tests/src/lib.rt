@@ -4,12 +4,14 @@
 #[cfg(test)]
 mod batch_tests;
 #[cfg(test)]
+mod course_tests;
+#[cfg(test)]
+mod crew_script_tests;
+#[cfg(test)]
+mod crew_telling;
+#[cfg(test)]
 mod gates;
 #[cfg(test)]
-mod script_tests;
-#[cfg(test)]
 mod shop_tests;
-#[cfg(test)]
-mod telling;
 #[cfg(test)]
 mod worlds;

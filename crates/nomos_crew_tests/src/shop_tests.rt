@@ -4,8 +4,8 @@ ghost use Rattle.std.specs.Thread.{IsSend, IsSync};
 ghost use Rattle.nomos_floor.specs.FloorCrew.{IsManned, KeepStations, KeepsStation};
 ghost use Rattle.nomos_workers.specs.Shops.{history_of};
 
+use crate::crew_telling::{SAY, accepted_of};
 use crate::gates::MeetingGate;
-use crate::telling::{SAY, accepted_of};
 use crate::worlds::{ONE_ACCOUNT, SAY_TWICE, world_of};
 use nomos_deeds::undo::Undo;
 use nomos_floor::crew::{Station, join_all, split_all};

@@ -4,7 +4,7 @@ ghost use Rattle.nomos_legal.specs.NextNumbers.{HasNumbered};
 ghost use Rattle.nomos_legal.specs.StandsFor.{StandsFor};
 ghost use Rattle.nomos_ledger.specs.Running.{MayRun};
 
-use crate::telling::{ran, script_of};
+use crate::crew_telling::{ran, script_of};
 use nomos_ledger::begun::Begun;
 use nomos_ledger::ledger::Ledger;
 use nomos_ledger::world::World;

@@ -11,7 +11,7 @@ use Rattle.nomos_machine.specs.Optional.{◌>>=◌}
 use Rattle.nomos_machine.specs.State.{State, process_at}
 use Rattle.nomos_machine.specs.Step.{deed, deed_by}
 use Rattle.nomos_machine.specs.declared.object.Process.{Process}
-use Rattle.nomos_deeds.specs.Seen.{seen_process}
+use Rattle.nomos_deeds.specs.SeenObjects.{seen_process}
 use Rattle.nomos_deeds.specs.declared.sight.SeenProcess.{SeenProcess}
 
 module _ (a : Acceptance) (s : State) (p : Process) where

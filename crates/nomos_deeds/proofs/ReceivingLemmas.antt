@@ -21,7 +21,7 @@ use Rattle.nomos_machine.specs.declared.object.Payload.TheVariants as payload
 use Rattle.nomos_machine.specs.declared.object.Process.{Process}
 use Rattle.nomos_machine.proofs.PutLaws.{InOrder}
 use Rattle.nomos_deeds.specs.Acts.{doing_deed, message_at, read_by, received_change, taken}
-use Rattle.nomos_deeds.specs.Seen.{seen_message, seen_payload, seen_label, seen_channel, brings_value, brings_potential}
+use Rattle.nomos_deeds.specs.SeenObjects.{seen_message, seen_payload, seen_label, seen_channel, brings_value, brings_potential}
 use Rattle.nomos_deeds.specs.declared.act.Doing.{Doing}
 use Rattle.nomos_deeds.specs.declared.act.Into.{Into}
 use Rattle.nomos_deeds.specs.declared.act.Into.TheVariants as into

@@ -21,7 +21,7 @@ use Rattle.nomos_machine.proofs.PutLaws.{InOrder, object_at-own}
 use Rattle.nomos_machine.proofs.PreservationLaws.{process_at-there}
 use Rattle.nomos_machine.proofs.SectionLaws.{offering-found}
 use Rattle.nomos_deeds.specs.Acts.{act_change}
-use Rattle.nomos_deeds.specs.Seen.{seen_process}
+use Rattle.nomos_deeds.specs.SeenObjects.{seen_process}
 use Rattle.nomos_deeds.specs.declared.act.Act.TheVariants as act
 use Rattle.nomos_deeds.specs.declared.sight.SeenProcess.{SeenProcess}
 

@@ -18,7 +18,7 @@ use Rattle.nomos_machine.specs.declared.object.Process.{Process}
 use Rattle.nomos_machine.proofs.MessageLaws.{message_on-found}
 use Rattle.nomos_machine.proofs.PutLaws.{InOrder, object_at-own}
 use Rattle.nomos_deeds.specs.Acts.{message_at, read_by}
-use Rattle.nomos_deeds.specs.Seen.{seen_message}
+use Rattle.nomos_deeds.specs.SeenObjects.{seen_message}
 use Rattle.nomos_deeds.specs.declared.sight.SeenMessage.{SeenMessage}
 
 -- the message that is read on a name is the one of its number

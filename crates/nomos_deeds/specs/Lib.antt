@@ -4,4 +4,4 @@ pub mod Decisions
 pub mod Firings
 pub mod Lowest
 pub mod Readers
-pub mod Seen
+pub mod SeenObjects

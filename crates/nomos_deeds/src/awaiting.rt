@@ -5,9 +5,9 @@ ghost use Rattle.nomos_ir.specs.declared.ids.TypeId.{TypeId as Goes};
 ghost use Rattle.nomos_types.specs.Acceptance.{IsAmountOf};
 ghost use Rattle.nomos_machine.specs.Saying.{Awaits, AwaitsOn};
 
-use crate::kinds::has_kind;
 use crate::sight::Sight;
-use crate::types::{goes_by, unfolded};
+use crate::unfolded_types::{goes_by, unfolded};
+use crate::value_kinds::has_kind;
 use nomos_ir::ids::TypeId;
 use nomos_ir::type_node::TypeNode;
 use nomos_machine::object::Said;

@@ -22,7 +22,7 @@ use crate::deeds::looks_ready;
 use crate::fire::Fire;
 use crate::firing::act_on;
 use crate::outcomes::code_with_terms;
-use crate::variables::copy_env;
+use crate::value_copies::copy_env;
 use nomos_eval::wanted::{Outcome, Wanted};
 use nomos_ir::fault::Fault;
 use nomos_ir::ids::{CodeId, ProcId, TypeId};

@@ -10,7 +10,7 @@ ghost use Rattle.nomos_deeds.specs.Decisions.{TermsComeTo};
 
 use crate::arms::code_at;
 use crate::sight::Sight;
-use crate::variables::is_same_env;
+use crate::value_copies::is_same_env;
 use nomos_eval::wanted::{Outcome, Wanted, evaluate_at};
 use nomos_ir::code_node::{CodeNode, ValueArg};
 use nomos_ir::ids::CodeId;

@@ -16,7 +16,7 @@ ghost use Rattle.nomos_machine.specs.declared.object.Message.{Message};
 ghost use Rattle.nomos_machine.specs.declared.object.Process.{Process};
 ghost use Rattle.nomos_deeds.specs.Acting.{IsFrugalDoing, IsFrugalInto};
 ghost use Rattle.nomos_deeds.specs.Acts.{Decides, doing_deed, message_at, read_by, received_change};
-ghost use Rattle.nomos_deeds.specs.Seen.{seen_message, seen_label, seen_channel, brings_value, brings_potential};
+ghost use Rattle.nomos_deeds.specs.SeenObjects.{seen_message, seen_label, seen_channel, brings_value, brings_potential};
 
 use crate::act::{Act, Doing, Into};
 use crate::arms::arm_for;

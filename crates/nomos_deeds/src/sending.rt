@@ -13,7 +13,7 @@ ghost use Rattle.nomos_deeds.specs.Acts.{Decides, sending_change, doing_deed};
 
 use crate::act::{Act, Doing, Sending};
 use crate::sight::Sight;
-use crate::types::{
+use crate::unfolded_types::{
     after_channel, after_label, after_potential, after_value, shows_shared, unfolded,
 };
 use nomos_ir::amount::Amount;

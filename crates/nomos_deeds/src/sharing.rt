@@ -15,7 +15,7 @@ use crate::act::{Act, Doing};
 use crate::arms::code_at;
 use crate::sending::node_of;
 use crate::sight::Sight;
-use crate::types::{accept_next, after_acquire, detach_next};
+use crate::unfolded_types::{accept_next, after_acquire, detach_next};
 use nomos_ir::code_node::CodeNode;
 use nomos_ir::ids::{CodeId, VarId};
 use nomos_types::accepted::Accepted;

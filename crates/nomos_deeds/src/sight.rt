@@ -9,7 +9,7 @@ ghost use Rattle.nomos_machine.specs.Sight.{message_on, offering, owner};
 ghost use Rattle.nomos_machine.specs.State.{State, process_at, type_of};
 ghost use Rattle.nomos_machine.specs.declared.object.PotentialList.{PotentialList};
 ghost use Rattle.nomos_machine.specs.declared.object.Process.{Process};
-ghost use Rattle.nomos_deeds.specs.Seen.{seen_process, seen_message, seen_list};
+ghost use Rattle.nomos_deeds.specs.SeenObjects.{seen_process, seen_message, seen_list};
 
 use nomos_ir::ids::{CodeId, Label, TypeId, VarId};
 use nomos_ir::mode::Mode;

@@ -28,8 +28,8 @@ use Rattle.nomos_due.specs.Outside.{FaultCounts}
 use Rattle.nomos_due.specs.Sources.{kept_text}
 use Rattle.nomos_due.specs.declared.benches.Load.{Load}
 use Rattle.nomos_due.specs.declared.due.Due.{Due}
-use Rattle.nomos_due.specs.declared.script.NoScript.{NoScript}
-use Rattle.nomos_due.specs.declared.script.NoScript.TheVariants as none
+use Rattle.nomos_due.specs.declared.script_found.NoScript.{NoScript}
+use Rattle.nomos_due.specs.declared.script_found.NoScript.TheVariants as none
 use Rattle.nomos_due.proofs.LoadReadsLaws.{load-reads, load_items}
 
 -- the firings of an entry that stay are firings of it

@@ -23,12 +23,12 @@ use Rattle.nomos_replay.proofs.FormLaws.{journal-form}
 use Rattle.nomos_replay.proofs.LengthLaws.{journal-within}
 use Rattle.nomos_run.specs.declared.orders.Orders.{Orders}
 use Rattle.nomos_due.specs.Finding.{IsBare, IsBareOf, HasRunAs, HasRunPart}
-use Rattle.nomos_due.specs.Lines.{IsNoScript, fault, too_long, syntax, no_entries}
+use Rattle.nomos_due.specs.DueLines.{IsNoScript, fault, too_long, syntax, no_entries}
 use Rattle.nomos_due.specs.Outside.{FaultCounts, HasText, Input, SourceState, input_of}
 use Rattle.nomos_due.specs.Replays as replays
 use Rattle.nomos_due.specs.Replays.{IsJournalDue, IsReplayDue, GivesJournal, no_journal}
 use Rattle.nomos_words.specs.Options.{usual_limit}
-use Rattle.nomos_due.specs.Runs as runs
+use Rattle.nomos_due.specs.RunsDue as runs
 use Rattle.nomos_due.specs.Sources.{IsJournalDueFor, IsReplayDueFor, IsRunDueFor, IsRunPartFor}
 use Rattle.nomos_due.specs.declared.due.Due.{Due}
 use Rattle.nomos_due.proofs.SourceLemmas.{some_text, told-same}

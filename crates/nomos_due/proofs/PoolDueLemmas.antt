@@ -8,11 +8,11 @@ use Rattle.nomos_legal.specs.declared.journal.Journal.{Journal}
 use Rattle.nomos_pool.specs.Pooled.{PoolsTo}
 use Rattle.nomos_words.specs.Options.{usual_limit}
 use Rattle.nomos_due.specs.Finding.{HasRunAs, HasRunPart, IsBare, IsBareOf, PoolsIn, PoolsInPart, nothing_taken, taken, taken_part, untaken, untaken_of}
-use Rattle.nomos_due.specs.Lines.{no_entries}
+use Rattle.nomos_due.specs.DueLines.{no_entries}
 use Rattle.nomos_due.specs.Outside.{HasText, SourceState, input_of}
 use Rattle.nomos_due.specs.Pools as pools
 use Rattle.nomos_due.specs.Pools.{pool_refusal}
-use Rattle.nomos_due.specs.Runs.{usual_orders}
+use Rattle.nomos_due.specs.RunsDue.{usual_orders}
 use Rattle.nomos_due.specs.Sources.{IsPoolDueFor, IsPoolPartFor}
 use Rattle.nomos_due.specs.declared.due.Due.{Due}
 use Rattle.nomos_due.specs.declared.pools.PoolDue.{PoolDue}

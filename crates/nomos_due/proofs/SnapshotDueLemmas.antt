@@ -16,7 +16,7 @@ use Rattle.nomos_snapshot.specs.declared.error.SaveError.{SaveError}
 use Rattle.nomos_snapshot.specs.declared.error.SaveError.TheVariants as save_error
 use Rattle.nomos_words.specs.Options.{usual_limit}
 use Rattle.nomos_due.specs.Finding.{HasNoLedger, IsBare, IsBareOf, IsLineOfNoLedger, IsNoLedgerOf, MayGoOn, ResumesIn, ResumesInPart, RunsFrom, RunsFromPart, SavesIn, SavesWhole, not_ran, not_read, ran, ran_part, saved, unsaved}
-use Rattle.nomos_due.specs.Lines.{no_entries}
+use Rattle.nomos_due.specs.DueLines.{no_entries}
 use Rattle.nomos_due.specs.Outside.{HasText, SourceState, input_of}
 use Rattle.nomos_due.specs.Resumes as resumes
 use Rattle.nomos_due.specs.Saves as saves

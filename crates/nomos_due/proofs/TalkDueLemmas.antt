@@ -22,9 +22,9 @@ use Rattle.nomos_visit.specs.TalkHeld.{HasToldIn, LeavesNumbers}
 use Rattle.nomos_visit.specs.declared.held.ToldTalk.{ToldTalk}
 use Rattle.nomos_words.specs.Options.{usual_limit}
 use Rattle.nomos_due.specs.Finding.{HasNoTalk, HasRunPart, IsBare, IsBareOf, IsNoTalkOf, TalksIn, TalksOf, TalksWhole, talked, untold}
-use Rattle.nomos_due.specs.Lines.{no_entries}
+use Rattle.nomos_due.specs.DueLines.{no_entries}
 use Rattle.nomos_due.specs.Outside.{HasText, Input, SourceState, input_of}
-use Rattle.nomos_due.specs.Runs.{usual_orders}
+use Rattle.nomos_due.specs.RunsDue.{usual_orders}
 use Rattle.nomos_due.specs.Sources.{IsTalkDueFor, kept_text}
 use Rattle.nomos_due.specs.TalkDue as talks
 use Rattle.nomos_due.specs.TalkDue.{IsNoTalk, talk_status}

@@ -16,7 +16,7 @@ use Rattle.nomos_run.specs.declared.orders.ScriptRun.{ScriptRun}
 use Rattle.nomos_run.specs.declared.orders.WholeRun.{WholeRun}
 use Rattle.nomos_run.proofs.CarriedLaws.{whole-tells}
 use Rattle.nomos_due.specs.Finding.{HasRunPart, RunsFrom, RunsFromPart, SavesIn, SavesWhole}
-use Rattle.nomos_due.specs.Runs.{HasRunFrom, usual_orders}
+use Rattle.nomos_due.specs.RunsDue.{HasRunFrom, usual_orders}
 use Rattle.nomos_due.specs.declared.due.Due.{Due}
 use Rattle.nomos_due.proofs.SourceLemmas.{if_err-map}
 

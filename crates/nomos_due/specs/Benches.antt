@@ -16,8 +16,8 @@ use Rattle.nomos_run.specs.declared.orders.Orders.{Orders}
 use Rattle.nomos_words.specs.BenchLoad.{auction_text, load_script}
 use Rattle.nomos_words.specs.Summary.{summary_text}
 use Rattle.nomos_words.specs.declared.summary.Figures.{Figures}
-use Rattle.nomos_due.specs.Lines.{no_entries}
-use Rattle.nomos_due.specs.Runs.{HasRun}
+use Rattle.nomos_due.specs.DueLines.{no_entries}
+use Rattle.nomos_due.specs.RunsDue.{HasRun}
 use Rattle.nomos_due.specs.declared.benches.Load.{Load}
 
 -- the text of the contract on which loads are run

@@ -15,9 +15,9 @@ use Rattle.nomos_run.specs.declared.orders.Orders.{Orders}
 use Rattle.nomos_words.specs.Options.{usual_limit}
 use Rattle.nomos_words.specs.Summary.{summary_text}
 use Rattle.nomos_due.specs.Benches.{figures_of}
-use Rattle.nomos_due.specs.Lines.{IsNoScript, no_entries, read_fault_line}
+use Rattle.nomos_due.specs.DueLines.{IsNoScript, no_entries, read_fault_line}
 use Rattle.nomos_due.specs.Outside.{HasText, HaveRisen, Input, SourceState, input_of}
-use Rattle.nomos_due.specs.Runs.{HasRun, HasRunFrom, usual_orders}
+use Rattle.nomos_due.specs.RunsDue.{HasRun, HasRunFrom, usual_orders}
 use Rattle.nomos_due.specs.Sources.{kept_text}
 use Rattle.nomos_pool.specs.Pooled.{PoolsTo}
 use Rattle.nomos_script.specs.TalkReading.{AnswersTalk, ReadsAsTalk}
@@ -39,10 +39,10 @@ use Rattle.nomos_due.specs.declared.pools.PoolDue.{PoolDue}
 use Rattle.nomos_due.specs.declared.pools.PoolPart.{PoolPart}
 use Rattle.nomos_due.specs.declared.resumes.NoLedger.{NoLedger}
 use Rattle.nomos_due.specs.declared.resumes.NoLedger.TheVariants as no_ledger
-use Rattle.nomos_due.specs.declared.script.NoScript.{NoScript}
+use Rattle.nomos_due.specs.declared.script_found.NoScript.{NoScript}
 use Rattle.nomos_due.specs.declared.talks.NoTalk.{NoTalk}
 use Rattle.nomos_due.specs.declared.talks.NoTalk.TheVariants as no_talk
-use Rattle.nomos_due.specs.declared.script.NoScript.TheVariants as none
+use Rattle.nomos_due.specs.declared.script_found.NoScript.TheVariants as none
 
 -- why there is no script
 abbrev pub IsMissing : Input → NoScript → Type 0

@@ -1,6 +1,6 @@
 pub mod Outside
-pub mod Lines
-pub mod Runs
+pub mod DueLines
+pub mod RunsDue
 pub mod Pools
 pub mod TalkDue
 pub mod SnapshotLines

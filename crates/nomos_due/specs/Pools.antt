@@ -10,9 +10,9 @@ use Rattle.nomos_legal.specs.declared.journal.Journal.{Journal}
 use Rattle.nomos_pool.specs.Pooled.{PoolsTo}
 use Rattle.nomos_report.specs.Reported.{report_of, run_status}
 use Rattle.nomos_words.specs.Options.{usual_limit}
-use Rattle.nomos_due.specs.Lines.{IsNoScript, no_entries, script_refusal}
+use Rattle.nomos_due.specs.DueLines.{IsNoScript, no_entries, script_refusal}
 use Rattle.nomos_due.specs.Outside.{Input}
-use Rattle.nomos_due.specs.Runs.{HasRun, usual_orders}
+use Rattle.nomos_due.specs.RunsDue.{HasRun, usual_orders}
 
 -- the line of a script that is refused since this line, behind a single one, is none itself
 abbrev pub pool_refusal : ℕ → List ℕ

@@ -12,7 +12,7 @@ use Rattle.nomos_replay.specs.Answers.{Answers}
 use Rattle.nomos_replay.specs.Refusal.{refusal_line}
 use Rattle.nomos_replay.specs.Replayed.{HasReplayed}
 use Rattle.nomos_replay.specs.declared.error.ReplayError.{ReplayError}
-use Rattle.nomos_due.specs.Lines.{IsNoScript, no_entries, read_fault_line}
+use Rattle.nomos_due.specs.DueLines.{IsNoScript, no_entries, read_fault_line}
 use Rattle.nomos_due.specs.Outside.{HaveRisen, Input}
 
 -- the journal where none was replayed

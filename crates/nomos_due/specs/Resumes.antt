@@ -11,9 +11,9 @@ use Rattle.nomos_report.specs.Reported.{report_of, run_status}
 use Rattle.nomos_snapshot.specs.Loading.{Loads}
 use Rattle.nomos_snapshot.specs.declared.error.LoadError.{LoadError}
 use Rattle.nomos_words.specs.Options.{usual_limit}
-use Rattle.nomos_due.specs.Lines.{IsNoScript, no_entries, read_fault_line}
+use Rattle.nomos_due.specs.DueLines.{IsNoScript, no_entries, read_fault_line}
 use Rattle.nomos_due.specs.Outside.{HaveRisen, Input}
-use Rattle.nomos_due.specs.Runs.{HasRunFrom, usual_orders}
+use Rattle.nomos_due.specs.RunsDue.{HasRunFrom, usual_orders}
 use Rattle.nomos_due.specs.SnapshotLines.{unloaded_line}
 
 -- What is due where there is no ledger to begin at: a status and a line.

@@ -12,9 +12,9 @@ use Rattle.nomos_snapshot.specs.Loading.{Loads}
 use Rattle.nomos_snapshot.specs.Saving.{Saves}
 use Rattle.nomos_snapshot.specs.declared.error.SaveError.{SaveError}
 use Rattle.nomos_words.specs.Options.{usual_limit}
-use Rattle.nomos_due.specs.Lines.{IsNoScript, no_entries}
+use Rattle.nomos_due.specs.DueLines.{IsNoScript, no_entries}
 use Rattle.nomos_due.specs.Outside.{Input}
-use Rattle.nomos_due.specs.Runs.{HasRun, usual_orders}
+use Rattle.nomos_due.specs.RunsDue.{HasRun, usual_orders}
 use Rattle.nomos_due.specs.SnapshotLines.{unsaved_line}
 
 -- What is due where a script is run and the ledger to which it leads is saved: a status, what is to be written to the

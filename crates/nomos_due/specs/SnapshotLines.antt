@@ -1,6 +1,6 @@
 -- The lines that are due where a ledger is not saved, or a text is not loaded.
 use Rattle.std.specs.Prelude.{ℕ, List, [], ◌++◌, codes, decimal}
-use Rattle.nomos_report.specs.Lines.{line}
+use Rattle.nomos_report.specs.ReportLines.{line}
 use Rattle.nomos_snapshot.specs.declared.error.LoadError.{LoadError}
 use Rattle.nomos_snapshot.specs.declared.error.LoadError.TheVariants as load
 use Rattle.nomos_snapshot.specs.declared.error.SaveError.{SaveError}

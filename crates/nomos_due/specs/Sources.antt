@@ -10,7 +10,7 @@ use Rattle.nomos_due.specs.Outside.{HasText, SourceState, input_of}
 use Rattle.nomos_due.specs.Pools.{IsPoolDue, IsPoolPart}
 use Rattle.nomos_due.specs.Replays.{IsJournalDue, IsReplayDue}
 use Rattle.nomos_due.specs.Resumes.{IsResumeDue, IsResumePart}
-use Rattle.nomos_due.specs.Runs.{IsRunDue, IsRunPart}
+use Rattle.nomos_due.specs.RunsDue.{IsRunDue, IsRunPart}
 use Rattle.nomos_due.specs.Saves.{IsSaveDue}
 use Rattle.nomos_due.specs.TalkDue.{IsTalkDue}
 use Rattle.nomos_due.specs.declared.due.Due.{Due}

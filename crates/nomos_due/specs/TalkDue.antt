@@ -14,9 +14,9 @@ use Rattle.nomos_legal.specs.declared.journal.Journal.{Journal}
 use Rattle.nomos_monitor.specs.TalkCourse.{TalkReply}
 use Rattle.nomos_report.specs.Reported.{report_of, run_status}
 use Rattle.nomos_words.specs.Options.{usual_limit}
-use Rattle.nomos_due.specs.Lines.{IsNoScript, no_entries, read_fault_line}
+use Rattle.nomos_due.specs.DueLines.{IsNoScript, no_entries, read_fault_line}
 use Rattle.nomos_due.specs.Outside.{HaveRisen, Input}
-use Rattle.nomos_due.specs.Runs.{HasRun, usual_orders}
+use Rattle.nomos_due.specs.RunsDue.{HasRun, usual_orders}
 use Rattle.nomos_visit.specs.TalkText.{talk_line_text, turns_of}
 use Rattle.nomos_visit.specs.Visits.{HoldsTalkIn, told_of_talk}
 

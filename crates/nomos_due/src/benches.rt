@@ -10,12 +10,12 @@ ghost use Rattle.nomos_due.specs.Finding.{HasRunLoad, HasRunPart};
 ghost use Rattle.nomos_due.specs.Sources.{kept_text};
 
 use crate::due::{Due, no_entries};
-use crate::script::{NoScript, script_of};
+use crate::script_found::{NoScript, script_of};
 use nomos_deeds::machine::Machine;
 use nomos_deeds::undo::Undo;
 use nomos_legal::journal::{End, Entry, Journal};
+use nomos_run::one_worker::run_script;
 use nomos_run::orders::{Orders, ScriptRun, WholeRun};
-use nomos_run::running::run_script;
 use nomos_run::status::run_status;
 use nomos_script::script::Script;
 use nomos_types::accepted::Accepted;

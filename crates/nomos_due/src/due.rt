@@ -2,7 +2,7 @@
 
 ghost use Rattle.std.specs.Prelude.{◌≡◌, IfOk, IfErr};
 ghost use Rattle.nomos_due.specs.Finding.{IsBare};
-ghost use Rattle.nomos_due.specs.Lines.{no_entries};
+ghost use Rattle.nomos_due.specs.DueLines.{no_entries};
 
 use nomos_ir::items::Items;
 use nomos_legal::journal::Journal;

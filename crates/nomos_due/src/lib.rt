@@ -9,7 +9,7 @@ pub mod replays;
 pub mod resumes;
 pub mod runs;
 pub mod saves;
-pub mod script;
+pub mod script_found;
 pub mod snapshot_lines;
 pub mod talks;
 pub mod written;

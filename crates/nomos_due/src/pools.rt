@@ -3,12 +3,12 @@
 ghost use Rattle.std.specs.Prelude.{◌≡◌, ◌<◌, Some, IfOk, IfErr};
 ghost use Rattle.nomos_due.specs.Finding.{HasRunAs, HasRunPart, PoolsIn, PoolsInPart, untaken_of};
 ghost use Rattle.nomos_due.specs.Outside.{source_state};
-ghost use Rattle.nomos_due.specs.Runs.{usual_orders};
+ghost use Rattle.nomos_due.specs.RunsDue.{usual_orders};
 ghost use Rattle.nomos_due.specs.Sources.{IsPoolDueFor, IsPoolPartFor};
 
 use crate::due::{Due, no_entries};
 use crate::runs::{ran_due, usual_orders};
-use crate::script::{no_script_due, read_script, refused_at_due};
+use crate::script_found::{no_script_due, read_script, refused_at_due};
 use nomos_base::Source;
 use nomos_deeds::undo::Undo;
 use nomos_ir::limits::USUAL_LIMIT;

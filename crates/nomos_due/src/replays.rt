@@ -15,7 +15,7 @@ ghost use Rattle.nomos_words.specs.Options.{usual_limit};
 ghost use Rattle.nomos_due.specs.Sources.{IsJournalDueFor, IsReplayDueFor};
 
 use crate::due::{Due, bare_due, line_due, no_entries};
-use crate::script::{no_script_due, read_script};
+use crate::script_found::{no_script_due, read_script};
 use nomos_base::{ReadError, Source, read_all};
 use nomos_deeds::undo::Undo;
 use nomos_ir::limits::USUAL_LIMIT;

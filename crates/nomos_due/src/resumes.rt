@@ -2,7 +2,7 @@
 
 ghost use Rattle.std.specs.Prelude.{◌≡◌, ℕ, List, Ok, Some, IfOk, IfErr};
 ghost use Rattle.nomos_due.specs.Finding.{FindsLedger, FindsLedgerIn, HasNoLedger, MayGoOn, ResumesIn, ResumesInPart, RunsFrom, RunsFromPart};
-ghost use Rattle.nomos_due.specs.Lines.{no_entries};
+ghost use Rattle.nomos_due.specs.DueLines.{no_entries};
 ghost use Rattle.nomos_due.specs.Outside.{FaultCounts, source_state};
 ghost use Rattle.nomos_due.specs.Sources.{IsResumeDueFor, IsResumePartFor};
 ghost use Rattle.nomos_legal.specs.Ledger.{LedgerState};
@@ -11,18 +11,18 @@ ghost use Rattle.nomos_words.specs.Options.{usual_limit};
 
 use crate::due::{Due, line_due, no_entries};
 use crate::runs::{usual_orders, whole_due};
-use crate::script::{no_script_due, read_script};
+use crate::script_found::{no_script_due, read_script};
 use crate::snapshot_lines::unloaded_due;
 use nomos_base::{ReadError, Source, read_all};
 use nomos_contents::contents::Contents;
 use nomos_ir::limits::USUAL_LIMIT;
 use nomos_ledger::ledger::Ledger;
 use nomos_legal::journal::Journal;
+use nomos_run::one_worker::run_from;
 use nomos_run::orders::ScriptRun;
-use nomos_run::running::run_from;
 use nomos_script::script::Script;
 use nomos_snapshot::error::LoadError;
-use nomos_snapshot::load::load;
+use nomos_snapshot::ledger_loading::load;
 use nomos_snapshot::saving::MAX_SNAPSHOT;
 use nomos_types::accepted::Accepted;
 use std::alloc::Global;

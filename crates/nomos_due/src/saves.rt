@@ -3,7 +3,7 @@
 ghost use Rattle.std.specs.Prelude.{◌≡◌, ◌≢◌, Some, IfOk, IfErr};
 ghost use Rattle.nomos_due.specs.Finding.{HasRunPart, IsBare, SavesIn, SavesWhole};
 ghost use Rattle.nomos_due.specs.Outside.{source_state};
-ghost use Rattle.nomos_due.specs.Runs.{usual_orders};
+ghost use Rattle.nomos_due.specs.RunsDue.{usual_orders};
 ghost use Rattle.nomos_due.specs.SnapshotLines.{unsaved_line};
 ghost use Rattle.nomos_due.specs.Sources.{IsRunPartFor, IsSaveDueFor};
 ghost use Rattle.nomos_legal.specs.StandsFor.{StandsFor};
@@ -11,14 +11,14 @@ ghost use Rattle.nomos_words.specs.Options.{usual_limit};
 
 use crate::due::{Due, bare_due};
 use crate::runs::usual_orders;
-use crate::script::{no_script_due, read_script};
+use crate::script_found::{no_script_due, read_script};
 use crate::snapshot_lines::unsaved_line;
 use nomos_base::Source;
 use nomos_contents::contents::Contents;
 use nomos_ir::limits::USUAL_LIMIT;
 use nomos_legal::journal::Journal;
+use nomos_run::one_worker::run_script;
 use nomos_run::orders::{ScriptRun, WholeRun};
-use nomos_run::running::run_script;
 use nomos_run::status::run_status;
 use nomos_script::script::Script;
 use nomos_snapshot::error::SaveError;

@@ -2,7 +2,7 @@
 
 ghost use Rattle.std.specs.Prelude.{◌≡◌, ◌++◌, IfOk, IfErr, decimal};
 ghost use Rattle.nomos_due.specs.Finding.{IsBare};
-ghost use Rattle.nomos_due.specs.Lines.{no_entries};
+ghost use Rattle.nomos_due.specs.DueLines.{no_entries};
 ghost use Rattle.nomos_due.specs.SnapshotLines.{snapshot_refusal, unloaded_line, unsaved_line};
 ghost use Rattle.nomos_words.specs.Options.{usual_limit};
 

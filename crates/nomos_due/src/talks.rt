@@ -2,9 +2,9 @@
 
 ghost use Rattle.std.specs.Prelude.{◌≡◌, ◌+◌, ◌≤◌, ◌++◌, ℕ, List, Some, IfOk, IfErr, codes, decimal, length};
 ghost use Rattle.nomos_due.specs.Finding.{FindsTalk, FindsTalkIn, HasNoTalk, HasRunPart, IsBare, TalksIn, TalksOf, TalksWhole};
-ghost use Rattle.nomos_due.specs.Lines.{no_entries};
+ghost use Rattle.nomos_due.specs.DueLines.{no_entries};
 ghost use Rattle.nomos_due.specs.Outside.{FaultCounts, source_state};
-ghost use Rattle.nomos_due.specs.Runs.{usual_orders};
+ghost use Rattle.nomos_due.specs.RunsDue.{usual_orders};
 ghost use Rattle.nomos_due.specs.Sources.{IsRunPartFor, IsTalkDueFor};
 ghost use Rattle.nomos_due.specs.TalkDue.{talk_status};
 ghost use Rattle.nomos_ir.specs.Limits.{text_limit};
@@ -17,13 +17,13 @@ ghost use Rattle.nomos_words.specs.Options.{usual_limit};
 
 use crate::due::{Due, bare_due, line_due, no_entries};
 use crate::runs::usual_orders;
-use crate::script::{no_script_due, read_script};
+use crate::script_found::{no_script_due, read_script};
 use nomos_base::{ReadError, Source, read_all};
 use nomos_deeds::talking::Talking;
 use nomos_ir::limits::{TEXT_LIMIT, USUAL_LIMIT};
 use nomos_legal::journal::Journal;
+use nomos_run::one_worker::run_script;
 use nomos_run::orders::{ScriptRun, WholeRun};
-use nomos_run::running::run_script;
 use nomos_run::status::run_status;
 use nomos_script::script::Script;
 use nomos_script::talk_line::TalkLines;

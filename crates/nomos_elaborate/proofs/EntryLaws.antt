@@ -11,7 +11,7 @@ use Rattle.nomos_surface.specs.TreeBounds.{IsWithinLimits}
 use Rattle.nomos_surface.specs.Counts.{in_decl, in_each, in_type}
 use Rattle.nomos_surface.specs.declared.surface.CostModel.{CostModel}
 use Rattle.nomos_surface.specs.Tree.{TypeTree, one, named, choice, channel, valued, paying, going_up, going_down, grouped, DeclTree, definition, function, process, transaction, FileTree}
-use Rattle.nomos_syntax.specs.Limits.{node_limit}
+use Rattle.nomos_syntax.specs.TextLimits.{node_limit}
 
 -- a type counts
 pub type_counts : (t : TypeTree) → 1 ≤ (in_type t).nodes

@@ -31,7 +31,7 @@ use Rattle.nomos_surface.specs.declared.name_at.NameAt.{NameAt}
 use Rattle.nomos_surface.specs.declared.steps.ChanAt.TheVariants as chan
 use Rattle.nomos_surface.specs.declared.surface.CostModel.{CostModel}
 use Rattle.nomos_surface.specs.Print.{truth_word, print_term, print_step, print_steps, print_code, print_last, print_arms, print_decl, print_decls, print_file}
-use Rattle.nomos_surface.specs.Shown.{Shown, Spells, HasValue, at_offset, sign, sign_at, keyword, keyword_at, print_name, print_more}
+use Rattle.nomos_surface.specs.Printed.{Shown, Spells, HasValue, at_offset, sign, sign_at, keyword, keyword_at, print_name, print_more}
 use Rattle.nomos_surface.specs.Tree.{TermTree, number, truth, me, variable, application, no_items, binary, negation, choosing, matching, parenthesized, StepTree, label, send, recv, put, taking, pay, getting, work, wait, accept, detach, acquire, release, spawn, binding, empty_list, longer_list, emit, CodeTree, code, LastTree, close, fwd, calling, code_if, case, code_match, ArmTrees, no_arms, arm, DeclTree, definition, function, process, transaction, FileTree}
 use Rattle.nomos_syntax.specs.declared.symbol.Symbol.{Symbol}
 use Rattle.nomos_syntax.specs.declared.symbol.Symbol.TheVariants as sym

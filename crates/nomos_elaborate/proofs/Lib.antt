@@ -41,3 +41,12 @@ pub mod CodeLabelLaws
 pub mod ParameterNameLaws
 mod PrintedLemmas
 pub mod InstructionLaws
+pub mod AnswerLaws
+pub mod CostAllLaws
+mod DeclaringLemmas
+pub mod NamingLaws
+pub mod NestingLaws
+mod ProgramExamples
+pub mod ProgramLaws
+pub mod RangeLaws
+pub mod WorkLaws

@@ -5,7 +5,7 @@ use Rattle.nomos_elaborate.specs.FileBuild.{program_of}
 use Rattle.nomos_ir.specs.Program.{IsSmall}
 use Rattle.nomos_surface.specs.Counts.{in_file}
 use Rattle.nomos_surface.specs.Tree.{FileTree}
-use Rattle.nomos_syntax.specs.Limits.{node_limit}
+use Rattle.nomos_syntax.specs.TextLimits.{node_limit}
 
 -- the type nodes and the term nodes of a program together
 pub few_types : (tree : FileTree) → length (program_of tree).types + length (program_of tree).terms

@@ -15,3 +15,5 @@ pub mod TermClaims
 pub mod TypeBuild
 pub mod TypeClaims
 pub mod mirror
+pub mod Elaborated
+pub mod WrittenWork

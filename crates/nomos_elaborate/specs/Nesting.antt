@@ -3,7 +3,7 @@ use Rattle.std.specs.Prelude.{◌≡◌, List, [], ◌∷◌, ◌++◌}
 use Rattle.nomos_grammar.specs.Offence.{Keeps, limit}
 use Rattle.nomos_grammar.specs.declared.offence.Which.TheVariants as which
 use Rattle.nomos_surface.specs.Print.{print_file}
-use Rattle.nomos_surface.specs.Shown.{Spells}
+use Rattle.nomos_surface.specs.Printed.{Spells}
 use Rattle.nomos_surface.specs.Tree.{DeclTree, FileTree}
 use Rattle.nomos_syntax.specs.Lexeme.{Placed}
 

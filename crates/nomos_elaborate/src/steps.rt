@@ -11,7 +11,7 @@ ghost use Rattle.nomos_surface.specs.StepView.{step_tree};
 use crate::claims::{bound_list, declared};
 use crate::elab_error::ElabError;
 use crate::elaborator::Elaborator;
-use crate::kinds::kind_of;
+use crate::kind_nodes::kind_of;
 use crate::sort::Sort;
 use nomos_ir::code_node::{Chan, CodeNode};
 use nomos_ir::ids::{CodeId, ProcId, VarId};

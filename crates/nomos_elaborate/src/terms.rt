@@ -11,7 +11,7 @@ ghost use Rattle.nomos_surface.specs.TermView.{term_tree, term_trees};
 use crate::claims::{bound_value, declared, demand};
 use crate::elab_error::ElabError;
 use crate::elaborator::Elaborator;
-use crate::kinds::kind_of;
+use crate::kind_nodes::kind_of;
 use crate::sort::Sort;
 use nomos_ir::ids::{FnId, TermId};
 use nomos_ir::items::Items;

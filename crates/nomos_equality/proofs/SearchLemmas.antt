@@ -15,9 +15,9 @@ use Rattle.nomos_types.specs.Unfolding.{IsUnfolding}
 use Rattle.nomos_types.proofs.EqualityLaws.{agree-same, agree-back, agree-through, no_dths}
 use Rattle.nomos_equality.specs.declared.hop.Hop.{Hop}
 use Rattle.nomos_equality.specs.declared.hop.Hop.TheVariants as hop
-use Rattle.nomos_equality.specs.declared.search.Origin.{Origin}
-use Rattle.nomos_equality.specs.declared.search.Visit.{Visit}
-use Rattle.nomos_equality.specs.declared.search.Search.{Search}
+use Rattle.nomos_equality.specs.declared.difference.Origin.{Origin}
+use Rattle.nomos_equality.specs.declared.difference.TypeVisit.{TypeVisit}
+use Rattle.nomos_equality.specs.declared.difference.DifferenceSearch.{DifferenceSearch}
 use Rattle.nomos_equality.specs.Comparing.{IsFront}
 use Rattle.nomos_equality.specs.Differences.{DifferAt}
 use Rattle.nomos_equality.specs.Paths.{ends, part_by}
@@ -31,12 +31,13 @@ use Rattle.nomos_equality.proofs.VisitLemmas.{get-front, get-push, met-wider, fo
 
 -- ---- classes grow
 
-classed-front : (s t : Search) → IsFront s.classes t.classes → (u v : TypeId) → Classed s u v → Classed t u v
+classed-front : (s t : DifferenceSearch) → IsFront s.classes t.classes → (u v : TypeId) → Classed s u v → Classed t u v
 classed-front s t front u v linked =
     subst (λ (l : List (TypeId × TypeId)). Linked l u.0 v.0) (sym front.is)
     (linked-more s.classes front.more u.0 v.0 linked)
 
-pub meets-front : (lists : ProgramLists) (s t : Search) (a b : TypeId) (from : Option Origin) → Meets lists s a b from t
+pub meets-front : (lists : ProgramLists) (s t : DifferenceSearch) (a b : TypeId) (from : Option Origin)
+    → Meets lists s a b from t
     → IsFront s.classes t.classes × IsMet lists (Classed t) a b
 meets-front lists s t a b from (known met classes visits) =
     let front : IsFront s.classes t.classes = front-same s.classes t.classes classes in
@@ -54,50 +55,53 @@ meets-front lists s t a b from (fresh left right left_is right_is classes visits
   },
 )
 
-goes-front : (lists : ProgramLists) (s t : Search) → GoesTo lists s t → IsFront s.classes t.classes
+goes-front : (lists : ProgramLists) (s t : DifferenceSearch) → GoesTo lists s t → IsFront s.classes t.classes
 goes-front lists s t stays = front-same s.classes s.classes refl
 goes-front lists s t (meets mid _ o a b goes on met) =
     front-through (goes-front lists s mid goes) ((meets-front lists mid t a b (Some o) met).0)
 
 -- types of one class stay so
-pub goes-classed : (lists : ProgramLists) (s t : Search) → GoesTo lists s t → (u v : TypeId) → Classed s u v
+pub goes-classed : (lists : ProgramLists) (s t : DifferenceSearch) → GoesTo lists s t → (u v : TypeId) → Classed s u v
     → Classed t u v
 goes-classed lists s t goes u v linked = classed-front s t (goes-front lists s t goes) u v linked
 
-pub goes-through : (lists : ProgramLists) (s t u : Search) → GoesTo lists s t → GoesTo lists t u → GoesTo lists s u
+pub goes-through : (lists : ProgramLists) (s t u : DifferenceSearch) → GoesTo lists s t → GoesTo lists t u
+    → GoesTo lists s u
 goes-through lists s t u first stays = first
 goes-through lists s t u first (meets mid _ o a b goes on met) =
     meets mid u o a b (goes-through lists s t mid first goes) on met
 
 -- visits stay
-meets-visits : (lists : ProgramLists) (s t : Search) (a b : TypeId) (from : Option Origin) → Meets lists s a b from t
+meets-visits : (lists : ProgramLists) (s t : DifferenceSearch) (a b : TypeId) (from : Option Origin)
+    → Meets lists s a b from t
     → IsFront s.visits.items t.visits.items
 meets-visits lists s t a b from (known met classes visits) = front-same s.visits.items t.visits.items visits
 meets-visits lists s t a b from (fresh left right left_is right_is classes visits) =
     record { more = _; is = visits }
 
-goes-visits : (lists : ProgramLists) (s t : Search) → GoesTo lists s t → IsFront s.visits.items t.visits.items
+goes-visits : (lists : ProgramLists) (s t : DifferenceSearch) → GoesTo lists s t → IsFront s.visits.items t.visits.items
 goes-visits lists s t stays = front-same s.visits.items s.visits.items refl
 goes-visits lists s t (meets mid _ o a b goes on met) =
     front-through (goes-visits lists s mid goes) (meets-visits lists mid t a b (Some o) met)
 
-pub goes-get : (lists : ProgramLists) (s t : Search) (i : ℕ) (v : Visit) → GoesTo lists s t
+pub goes-get : (lists : ProgramLists) (s t : DifferenceSearch) (i : ℕ) (v : TypeVisit) → GoesTo lists s t
     → slice_get s.visits.items i ≡ Some v → slice_get t.visits.items i ≡ Some v
 goes-get lists s t i v goes found =
     let front = goes-visits lists s t goes in
-    subst (λ (l : List Visit). slice_get l i ≡ Some v) (sym front.is) (get-front s.visits.items front.more i v found)
+    subst (λ (l : List TypeVisit). slice_get l i ≡ Some v) (sym front.is)
+    (get-front s.visits.items front.more i v found)
 
 -- ---- where visits come from
 
-abbrev pair_of : Visit → TypeId × TypeId
+abbrev pair_of : TypeVisit → TypeId × TypeId
 pair_of v = (v.left, v.right)
 
 -- two types are met at the beginning, or by a hop from an earlier visit
-abbrev pub CameBy : ProgramLists → TypeId → TypeId → List Visit → ℕ → Option Origin → TypeId → TypeId → Type 0
+abbrev pub CameBy : ProgramLists → TypeId → TypeId → List TypeVisit → ℕ → Option Origin → TypeId → TypeId → Type 0
 CameBy lists a b visits i None c d = (c ≡ a) × (d ≡ b)
 CameBy lists a b visits i (Some o) c d = (o.visit < i) × GoesOn lists visits o c d
 
-pub record Came (lists : ProgramLists) (a b : TypeId) (visits : List Visit) (i : ℕ) (v : Visit) : Type 0 where
+pub record Came (lists : ProgramLists) (a b : TypeId) (visits : List TypeVisit) (i : ℕ) (v : TypeVisit) : Type 0 where
   pub left : TypeId
   pub right : TypeId
   pub by : CameBy lists a b visits i v.from left right
@@ -105,11 +109,11 @@ pub record Came (lists : ProgramLists) (a b : TypeId) (visits : List Visit) (i :
   pub right_is : IsUnfolding lists right.0 v.right.0
 
 -- what holds of a search at each moment
-pub record IsWalk (lists : ProgramLists) (a b : TypeId) (s : Search) : Type 0 where
+pub record IsWalk (lists : ProgramLists) (a b : TypeId) (s : DifferenceSearch) : Type 0 where
   pub classes : s.classes ≡ map pair_of s.visits.items
-  pub came : (i : ℕ) (v : Visit) → slice_get s.visits.items i ≡ Some v → Came lists a b s.visits.items i v
+  pub came : (i : ℕ) (v : TypeVisit) → slice_get s.visits.items i ≡ Some v → Came lists a b s.visits.items i v
 
-goes_on-front : (lists : ProgramLists) (visits more : List Visit) (o : Origin) (c d : TypeId)
+goes_on-front : (lists : ProgramLists) (visits more : List TypeVisit) (o : Origin) (c d : TypeId)
     → GoesOn lists visits o c d → GoesOn lists (visits ++ more) o c d
 goes_on-front lists visits more o c d on =
     record {
@@ -122,12 +126,12 @@ goes_on-front lists visits more o c d on =
       right_part = on.right_part;
     }
 
-came_by-front : (lists : ProgramLists) (a b : TypeId) (visits more : List Visit) (i : ℕ) (from : Option Origin)
+came_by-front : (lists : ProgramLists) (a b : TypeId) (visits more : List TypeVisit) (i : ℕ) (from : Option Origin)
     (c d : TypeId) → CameBy lists a b visits i from c d → CameBy lists a b (visits ++ more) i from c d
 came_by-front lists a b visits more i None c d by = by
 came_by-front lists a b visits more i (Some o) c d by = (by.0, goes_on-front lists visits more o c d by.1)
 
-came-front : (lists : ProgramLists) (a b : TypeId) (visits more : List Visit) (i : ℕ) (v : Visit)
+came-front : (lists : ProgramLists) (a b : TypeId) (visits more : List TypeVisit) (i : ℕ) (v : TypeVisit)
     → Came lists a b visits i v → Came lists a b (visits ++ more) i v
 came-front lists a b visits more i v came =
     record {
@@ -140,9 +144,9 @@ came-front lists a b visits more i v came =
 
 -- ---- trails
 
-module _ (lists : ProgramLists) (a b : TypeId) (visits : List Visit)
-    (came : (i : ℕ) (v : Visit) → slice_get visits i ≡ Some v → Came lists a b visits i v) where
-  came-begins : (v : Visit) (i : ℕ) (from : Option Origin) (c d : TypeId) → CameBy lists a b visits i from c d
+module _ (lists : ProgramLists) (a b : TypeId) (visits : List TypeVisit)
+    (came : (i : ℕ) (v : TypeVisit) → slice_get visits i ≡ Some v → Came lists a b visits i v) where
+  came-begins : (v : TypeVisit) (i : ℕ) (from : Option Origin) (c d : TypeId) → CameBy lists a b visits i from c d
       → from ≡ None → (c ≡ a) × (d ≡ b)
   came-begins v i None c d by is = by
   came-begins v i (Some o) c d by is = absurd cc
@@ -155,7 +159,7 @@ module _ (lists : ProgramLists) (a b : TypeId) (visits : List Visit)
       subst (λ (q : Origin). (q.visit < i) × GoesOn lists visits q c d) same by
 
   -- a visit is reached by its trail
-  pub trail-reached : (i : ℕ) (path : List Hop) (v : Visit) → Trail visits i path → slice_get visits i ≡ Some v
+  pub trail-reached : (i : ℕ) (path : List Hop) (v : TypeVisit) → Trail visits i path → slice_get visits i ≡ Some v
       → Reached lists a b path v
   trail-reached i [] v (begins _ w there is) found =
       let c = came i w there in
@@ -169,7 +173,7 @@ module _ (lists : ProgramLists) (a b : TypeId) (visits : List Visit)
         left_is = subst (λ (t : TypeId). IsUnfolding lists t.0 w.left.0) ends_at.0 c.left_is;
         right_is = subst (λ (t : TypeId). IsUnfolding lists t.0 w.right.0) ends_at.1 c.right_is;
       } in
-      subst (λ (u : Visit). Reached lists a b [] u) same at_w
+      subst (λ (u : TypeVisit). Reached lists a b [] u) same at_w
   trail-reached i _ v (onward _ w o path there is trail) found =
       let c = came i w there in
       let on = came-onward i w.from o c.left c.right c.by is in
@@ -189,12 +193,13 @@ module _ (lists : ProgramLists) (a b : TypeId) (visits : List Visit)
         left_is = c.left_is;
         right_is = c.right_is;
       } in
-      subst (λ (u : Visit). Reached lists a b (path ++ o.hop ∷ []) u) same at_w
+      subst (λ (u : TypeVisit). Reached lists a b (path ++ o.hop ∷ []) u) same at_w
 
 -- ---- a search at each moment
 
 -- one more visit
-walk-visit : (lists : ProgramLists) (a b : TypeId) (s t : Search) (c d : TypeId) (v : Visit) → IsWalk lists a b s
+walk-visit : (lists : ProgramLists) (a b : TypeId) (s t : DifferenceSearch) (c d : TypeId) (v : TypeVisit)
+    → IsWalk lists a b s
     → CameBy lists a b s.visits.items (length s.visits.items) v.from c d → IsUnfolding lists c.0 v.left.0
     → IsUnfolding lists d.0 v.right.0 → t.classes ≡ s.classes ++ (v.left, v.right) ∷ []
     → t.visits.items ≡ s.visits.items ++ v ∷ [] → IsWalk lists a b t
@@ -207,31 +212,34 @@ walk-visit lists a b s t c d v walk by left_is right_is classes visits =
       left_is = left_is;
       right_is = right_is;
     } in
-    let came : (i : ℕ) (w : Visit) → slice_get (visited ++ v ∷ []) i ≡ Some w → Came lists a b (visited ++ v ∷ []) i w =
+    let came : (i : ℕ) (w : TypeVisit) → slice_get (visited ++ v ∷ []) i ≡ Some w
+    → Came lists a b (visited ++ v ∷ []) i w =
     λ i w found.
     elim (get-push visited v i w found) [
       | inl h ↦ came-front lists a b visited (v ∷ []) i w (walk.came i w h)
-      | inr h ↦ subst (λ (u : Visit). Came lists a b (visited ++ v ∷ []) i u) h.1
+      | inr h ↦ subst (λ (u : TypeVisit). Came lists a b (visited ++ v ∷ []) i u) h.1
           (subst (λ (j : ℕ). Came lists a b (visited ++ v ∷ []) j v) (sym h.0) last)
     ]
     in
     record {
       classes =
           classes ∙ ap (λ (l : List (TypeId × TypeId)). l ++ (v.left, v.right) ∷ []) walk.classes
-          ∙ sym (map-append pair_of visited (v ∷ [])) ∙ ap (λ (l : List Visit). map pair_of l) (sym visits);
+          ∙ sym (map-append pair_of visited (v ∷ [])) ∙ ap (λ (l : List TypeVisit). map pair_of l) (sym visits);
       came =
-          subst (λ (l : List Visit). (i : ℕ) (w : Visit) → slice_get l i ≡ Some w → Came lists a b l i w) (sym visits)
+          subst (λ (l : List TypeVisit). (i : ℕ) (w : TypeVisit) → slice_get l i ≡ Some w → Came lists a b l i w)
+          (sym visits)
           came;
     }
 
-walk-meets : (lists : ProgramLists) (a b : TypeId) (s t : Search) (from : Option Origin) (c d : TypeId)
+walk-meets : (lists : ProgramLists) (a b : TypeId) (s t : DifferenceSearch) (from : Option Origin) (c d : TypeId)
     → IsWalk lists a b s → CameBy lists a b s.visits.items (length s.visits.items) from c d
     → Meets lists s c d from t → IsWalk lists a b t
 walk-meets lists a b s t from c d walk by (known met classes visits) =
     record {
-      classes = classes ∙ walk.classes ∙ ap (λ (l : List Visit). map pair_of l) (sym visits);
+      classes = classes ∙ walk.classes ∙ ap (λ (l : List TypeVisit). map pair_of l) (sym visits);
       came =
-          subst (λ (l : List Visit). (i : ℕ) (v : Visit) → slice_get l i ≡ Some v → Came lists a b l i v) (sym visits)
+          subst (λ (l : List TypeVisit). (i : ℕ) (v : TypeVisit) → slice_get l i ≡ Some v → Came lists a b l i v)
+          (sym visits)
           walk.came;
     }
 walk-meets lists a b s t from c d walk by (fresh left right left_is right_is classes visits) =
@@ -239,21 +247,22 @@ walk-meets lists a b s t from c d walk by (fresh left right left_is right_is cla
     visits
 
 -- a search before its first visit
-pub walk-begins : (lists : ProgramLists) (a b : TypeId) (old s : Search) → old.visits.items ≡ [] → old.classes ≡ []
+pub walk-begins : (lists : ProgramLists) (a b : TypeId) (old s : DifferenceSearch) → old.visits.items ≡ []
+    → old.classes ≡ []
     → Meets lists old a b None s → IsWalk lists a b s
 walk-begins lists a b old s empty alone met =
-    let none : (i : ℕ) (v : Visit) → slice_get old.visits.items i ≡ Some v → Came lists a b old.visits.items i v =
+    let none : (i : ℕ) (v : TypeVisit) → slice_get old.visits.items i ≡ Some v → Came lists a b old.visits.items i v =
     λ i v found. let inside =
     slice_get_within old.visits.items i v found in absurd (omega (arith, inside, ap length empty))
     in
     let before : IsWalk lists a b old = record {
-      classes = alone ∙ ap (λ (l : List Visit). map pair_of l) (sym empty);
+      classes = alone ∙ ap (λ (l : List TypeVisit). map pair_of l) (sym empty);
       came = none;
     } in
     walk-meets lists a b old s None a b before (refl, refl) met
 
 -- a search that goes on
-pub walk-goes : (lists : ProgramLists) (a b : TypeId) (s t : Search) → IsWalk lists a b s → GoesTo lists s t
+pub walk-goes : (lists : ProgramLists) (a b : TypeId) (s t : DifferenceSearch) → IsWalk lists a b s → GoesTo lists s t
     → IsWalk lists a b t
 walk-goes lists a b s t walk stays = walk
 walk-goes lists a b s t walk (meets mid _ o c d goes on met) =
@@ -263,7 +272,8 @@ walk-goes lists a b s t walk (meets mid _ o c d goes on met) =
 -- ---- what the search is to know
 
 -- the nodes at a visit
-pub visit-nodes : (lists : ProgramLists) (a b : TypeId) (s : Search) (i : ℕ) (v : Visit) → IsWalk lists a b s
+pub visit-nodes : (lists : ProgramLists) (a b : TypeId) (s : DifferenceSearch) (i : ℕ) (v : TypeVisit)
+    → IsWalk lists a b s
     → slice_get s.visits.items i ≡ Some v → HasNodes lists v
 visit-nodes lists a b s i v walk found =
     let c = walk.came i v found in
@@ -276,7 +286,8 @@ visit-nodes lists a b s i v walk found =
     }
 
 -- a visit whose nodes differ, at the end of its trail
-pub visit-differs : (lists : ProgramLists) (a b : TypeId) (s : Search) (i : ℕ) (v : Visit) (path : List Hop)
+pub visit-differs : (lists : ProgramLists) (a b : TypeId) (s : DifferenceSearch) (i : ℕ) (v : TypeVisit)
+    (path : List Hop)
     → IsWalk lists a b s → Trail s.visits.items i path → slice_get s.visits.items i ≡ Some v → DifferHere lists v
     → DifferAt lists a b path
 visit-differs lists a b s i v path walk trail found differ =
@@ -299,7 +310,8 @@ visit-differs lists a b s i v path walk trail found differ =
 
 -- ---- what the functions owe
 
-pub follow-goes : (lists : ProgramLists) (s t : Search) (number : ℕ) (v : Visit) (h : Hop) (p q : TypeNode)
+pub follow-goes : (lists : ProgramLists) (s t : DifferenceSearch) (number : ℕ) (v : TypeVisit) (h : Hop)
+    (p q : TypeNode)
     (a b : TypeId) → slice_get s.visits.items number ≡ Some v → IsAt lists v p q → part_by p h ≡ Some a
     → part_by q h ≡ Some b → Meets lists s a b (Some (record { visit = number; hop = h })) t
     → GoesTo lists s t × Follows lists v h (Classed t)
@@ -318,7 +330,7 @@ follow-goes lists s t number v h p q a b there at left_part right_part met = (
 )
 
 -- all that a step does
-pub step-compared : (lists : ProgramLists) (v : Visit) (t u w : Search) → HasForm lists v
+pub step-compared : (lists : ProgramLists) (v : TypeVisit) (t u w : DifferenceSearch) → HasForm lists v
     → Follows lists v hop.Carried (Classed t) → GoesTo lists t u → Follows lists v hop.Next (Classed u)
     → GoesTo lists u w → ((l : Label) → Follows lists v (hop.Label l) (Classed w)) → IsCompared lists v (Classed w)
 step-compared lists v t u w form carried second next third labels = record { form = form; parts = λ h. by h }
@@ -331,13 +343,14 @@ step-compared lists v t u w form carried second next third labels = record { for
         (goes-classed lists t w (goes-through lists t u w second third)) carried
 
 -- each visit was met from an earlier one
-pub walk-order : (lists : ProgramLists) (a b : TypeId) (s : Search) → IsWalk lists a b s
+pub walk-order : (lists : ProgramLists) (a b : TypeId) (s : DifferenceSearch) → IsWalk lists a b s
     → AreInOrder s.visits.items
 walk-order lists a b s walk =
     λ i v o found is. let c =
     walk.came i v found in (came-onward lists a b s.visits.items walk.came i v.from o c.left c.right c.by is).0
 
-compared-wider : (lists : ProgramLists) (v : Visit) (s t : Search) → GoesTo lists s t → IsCompared lists v (Classed s)
+compared-wider : (lists : ProgramLists) (v : TypeVisit) (s t : DifferenceSearch) → GoesTo lists s t
+    → IsCompared lists v (Classed s)
     → IsCompared lists v (Classed t)
 compared-wider lists v s t goes compared =
     record {
@@ -346,10 +359,10 @@ compared-wider lists v s t goes compared =
     }
 
 -- one more visit is compared
-pub compared-more : (lists : ProgramLists) (s t : Search) (n : ℕ) (v : Visit) → GoesTo lists s t
+pub compared-more : (lists : ProgramLists) (s t : DifferenceSearch) (n : ℕ) (v : TypeVisit) → GoesTo lists s t
     → n < length s.visits.items → slice_get s.visits.items n ≡ Some v
-    → ((i : ℕ) (w : Visit) → i < n → slice_get s.visits.items i ≡ Some w → IsCompared lists w (Classed s))
-    → IsCompared lists v (Classed t) → (i : ℕ) (w : Visit) → i < n + 1 → slice_get t.visits.items i ≡ Some w
+    → ((i : ℕ) (w : TypeVisit) → i < n → slice_get s.visits.items i ≡ Some w → IsCompared lists w (Classed s))
+    → IsCompared lists v (Classed t) → (i : ℕ) (w : TypeVisit) → i < n + 1 → slice_get t.visits.items i ≡ Some w
     → IsCompared lists w (Classed t)
 compared-more lists s t n v goes inside there before last i w below found =
     elim (cases_lt i n) [
@@ -358,7 +371,7 @@ compared-more lists s t n v goes inside there before last i w below found =
           let old = goes-get lists s t i (get_or s.visits.items i v) goes d in
           let same_visit : get_or s.visits.items i v ≡ w = cc in
           let here : slice_get s.visits.items i
-          ≡ Some w = subst (λ (u : Visit). slice_get s.visits.items i ≡ Some u) same_visit d in
+          ≡ Some w = subst (λ (u : TypeVisit). slice_get s.visits.items i ≡ Some u) same_visit d in
           compared-wider lists w s t goes (before i w less here)
       | inr more ↦
           let at : n ≡ i = omega arith in
@@ -366,11 +379,11 @@ compared-more lists s t n v goes inside there before last i w below found =
           let old_at : slice_get t.visits.items i
           ≡ Some v = subst (λ (k : ℕ). slice_get t.visits.items k ≡ Some v) at old in
           let same_visit : v ≡ w = cc in
-          subst (λ (u : Visit). IsCompared lists u (Classed t)) same_visit last
+          subst (λ (u : TypeVisit). IsCompared lists u (Classed t)) same_visit last
     ]
 
 -- what a step says, by its answer
-pub step-says : (lists : ProgramLists) (v : Visit) (s : Search) (answer is : Bool) → answer ≡ is
+pub step-says : (lists : ProgramLists) (v : TypeVisit) (s : DifferenceSearch) (answer is : Bool) → answer ≡ is
     → MatchBool answer (IsCompared lists v (Classed s)) (DifferHere lists v)
     → MatchBool is (IsCompared lists v (Classed s)) (DifferHere lists v)
 step-says lists v s answer is equal says =
@@ -403,10 +416,11 @@ linked-agree lists n pairs agree s t (through u v w first second) =
           ]
     ]
 
-module _ (lists : ProgramLists) (a b : TypeId) (s : Search) (formed : IsFormed lists) (walk : IsWalk lists a b s)
-    (compared : (i : ℕ) (v : Visit) → slice_get s.visits.items i ≡ Some v → IsCompared lists v (Classed s)) where
+module _ (lists : ProgramLists) (a b : TypeId) (s : DifferenceSearch) (formed : IsFormed lists)
+    (walk : IsWalk lists a b s)
+    (compared : (i : ℕ) (v : TypeVisit) → slice_get s.visits.items i ≡ Some v → IsCompared lists v (Classed s)) where
   -- a visit whose parts agree to a depth agrees to one more
-  visit-agrees : (n : ℕ) (v : Visit) → HasNodes lists v → IsCompared lists v (Classed s)
+  visit-agrees : (n : ℕ) (v : TypeVisit) → HasNodes lists v → IsCompared lists v (Classed s)
       → ((c d : TypeId) → IsMet lists (Classed s) c d → Agree lists no_amounts n c d)
       → Agree lists no_amounts (suc n) v.left v.right
   visit-agrees n v nodes here agrees =
@@ -423,11 +437,11 @@ module _ (lists : ProgramLists) (a b : TypeId) (s : Search) (formed : IsFormed l
 
   -- a joined pair is that of a visit
   joined-visit : (p : TypeId × TypeId) → Contains s.classes p
-      → (i : ℕ) × ((v : Visit) × (slice_get s.visits.items i ≡ Some v) × (pair_of v ≡ p))
+      → (i : ℕ) × ((v : TypeVisit) × (slice_get s.visits.items i ≡ Some v) × (pair_of v ≡ p))
   joined-visit p among =
       let w = contains-unmap pair_of s.visits.items p
       (subst (λ (l : List (TypeId × TypeId)). Contains l p) walk.classes among) in
-      (w.1.0, (w.0, slice_get-get_or s.visits.items w.1.0 w.0 w.1.1 ∙ ap (λ (x : Visit). Some x) w.1.2, w.2))
+      (w.1.0, (w.0, slice_get-get_or s.visits.items w.1.0 w.0 w.1.1 ∙ ap (λ (x : TypeVisit). Some x) w.1.2, w.2))
 
   -- a joined pair agrees to each depth
   joined-agrees : (n : ℕ) (p : TypeId × TypeId) → Contains s.classes p → Agree lists no_amounts n p.0 p.1

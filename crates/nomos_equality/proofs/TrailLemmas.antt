@@ -3,14 +3,14 @@ use Rattle.std.proofs.Common.{◌≡◌, ◌<◌, ◌++◌, ◌+◌, ℕ, List, 
 use Rattle.std.proofs.lemmas.List.{reverse-append}
 use Rattle.std.proofs.lemmas.Option.{slice_get_within}
 use Rattle.nomos_equality.specs.declared.hop.Hop.{Hop}
-use Rattle.nomos_equality.specs.declared.search.Origin.{Origin}
-use Rattle.nomos_equality.specs.declared.search.Visit.{Visit}
+use Rattle.nomos_equality.specs.declared.difference.Origin.{Origin}
+use Rattle.nomos_equality.specs.declared.difference.TypeVisit.{TypeVisit}
 use Rattle.nomos_equality.specs.mirror.Search.{Trail, begins, onward, AreInOrder}
 
 -- the visit at which the reading stands, whose origin is known
-pub record IsTrailFrom (visits : List Visit) (number : ℕ) (from : Option Origin) (path : List Hop) : Type 0 where
+pub record IsTrailFrom (visits : List TypeVisit) (number : ℕ) (from : Option Origin) (path : List Hop) : Type 0 where
   pub at : ℕ
-  pub visit : Visit
+  pub visit : TypeVisit
   pub there : slice_get visits at ≡ Some visit
   pub from_is : visit.from ≡ from
   pub leads : (front : List Hop) → Trail visits at front → Trail visits number (front ++ reverse path)
@@ -21,7 +21,7 @@ trail_measure None = 0
 trail_measure (Some o) = o.visit + 1
 
 -- one hop further
-pub trail-onward : (visits : List Visit) (number : ℕ) (o : Origin) (path : List Hop) (v : Visit)
+pub trail-onward : (visits : List TypeVisit) (number : ℕ) (o : Origin) (path : List Hop) (v : TypeVisit)
     → IsTrailFrom visits number (Some o) path → slice_get visits o.visit ≡ Some v
     → IsTrailFrom visits number v.from (path ++ o.hop ∷ [])
 trail-onward visits number o path v trail found =
@@ -38,12 +38,12 @@ trail-onward visits number o path v trail found =
     }
 
 -- at the beginning
-pub trail-ends : (visits : List Visit) (number : ℕ) (path : List Hop) → IsTrailFrom visits number None path
+pub trail-ends : (visits : List TypeVisit) (number : ℕ) (path : List Hop) → IsTrailFrom visits number None path
     → Trail visits number (reverse path)
 trail-ends visits number path trail = trail.leads [] (begins trail.at trail.visit trail.there trail.from_is)
 
 -- the next visit is there
-pub trail-inside : (visits : List Visit) (number : ℕ) (o : Origin) (path : List Hop) → AreInOrder visits
+pub trail-inside : (visits : List TypeVisit) (number : ℕ) (o : Origin) (path : List Hop) → AreInOrder visits
     → IsTrailFrom visits number (Some o) path → o.visit < length visits
 trail-inside visits number o path order trail =
     let earlier = order trail.at trail.visit o trail.there trail.from_is in

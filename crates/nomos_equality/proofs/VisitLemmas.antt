@@ -11,7 +11,7 @@ use Rattle.nomos_types.specs.Branches.{goes_by}
 use Rattle.nomos_types.specs.Unfolding.{IsUnfolding}
 use Rattle.nomos_equality.specs.declared.hop.Hop.{Hop}
 use Rattle.nomos_equality.specs.declared.hop.Hop.TheVariants as hop
-use Rattle.nomos_equality.specs.declared.search.Visit.{Visit}
+use Rattle.nomos_equality.specs.declared.difference.TypeVisit.{TypeVisit}
 use Rattle.nomos_equality.specs.Comparing.{IsFront}
 use Rattle.nomos_equality.specs.Differences.{SameForm}
 use Rattle.nomos_equality.specs.Paths.{PathLeads, ends, hops, choices_of, part_by}
@@ -55,14 +55,14 @@ met-wider lists R S a b wider met =
       among = wider met.left met.right met.among;
     }
 
-pub follows-wider : (lists : ProgramLists) (v : Visit) (h : Hop) (R S : TypeId → TypeId → Type 0)
+pub follows-wider : (lists : ProgramLists) (v : TypeVisit) (h : Hop) (R S : TypeId → TypeId → Type 0)
     → ((c d : TypeId) → R c d → S c d) → Follows lists v h R → Follows lists v h S
 follows-wider lists v h R S wider follows =
     λ left right a b at left_part right_part.
     met-wider lists R S a b wider (follows left right a b at left_part right_part)
 
 -- the parts of a visit by one hop are met
-pub follows-known : (lists : ProgramLists) (v : Visit) (h : Hop) (R : TypeId → TypeId → Type 0) (p q : TypeNode)
+pub follows-known : (lists : ProgramLists) (v : TypeVisit) (h : Hop) (R : TypeId → TypeId → Type 0) (p q : TypeNode)
     (a b : TypeId) → IsAt lists v p q → part_by p h ≡ Some a → part_by q h ≡ Some b → IsMet lists R a b
     → Follows lists v h R
 follows-known lists v h R p q a b at left_part right_part met =
@@ -80,7 +80,7 @@ follows-known lists v h R p q a b at left_part right_part met =
     subst (λ (t : TypeId). IsMet lists R c t) d_same (subst (λ (t : TypeId). IsMet lists R t b) c_same met)
 
 -- nodes of the same form
-pub form-known : (lists : ProgramLists) (v : Visit) (p q : TypeNode) → IsAt lists v p q → SameForm p q
+pub form-known : (lists : ProgramLists) (v : TypeVisit) (p q : TypeNode) → IsAt lists v p q → SameForm p q
     → HasForm lists v
 form-known lists v p q at form left right here =
     let l1 = at.left_there in
@@ -92,7 +92,7 @@ form-known lists v p q at form left right here =
     subst (λ (n : TypeNode). SameForm left n) right_same (subst (λ (n : TypeNode). SameForm n q) left_same form)
 
 -- the labels of a visit whose branches were followed
-pub labels-known : (lists : ProgramLists) (v : Visit) (p q : TypeNode) (R : TypeId → TypeId → Type 0)
+pub labels-known : (lists : ProgramLists) (v : TypeVisit) (p q : TypeNode) (R : TypeId → TypeId → Type 0)
     → IsAt lists v p q → ((k : ℕ) (d : Branch) → k < length (choices_of p)
     → Follows lists v (hop.Label (get_or (choices_of p) k d).label) R) → (l : Label)
     → Follows lists v (hop.Label l) R
@@ -124,7 +124,7 @@ ok-both P Q (Err e) first second = first
 -- ---- paths
 
 -- the types of a visit stand at the end of a path, behind their names
-pub record Reached (lists : ProgramLists) (a b : TypeId) (path : List Hop) (v : Visit) : Type 0 where
+pub record Reached (lists : ProgramLists) (a b : TypeId) (path : List Hop) (v : TypeVisit) : Type 0 where
   pub left_type : TypeId
   pub right_type : TypeId
   pub left_leads : PathLeads lists path a left_type

@@ -70,3 +70,8 @@ pub record StandAtEqualPaths (lists : ProgramLists) (a b : TypeId) (amounts : Am
   pub place : AtEqualPaths lists a b
   pub left_pays : paid_by place.left ≡ Some amounts.0
   pub right_pays : paid_by place.right ≡ Some amounts.1
+
+-- no path leads from the type to one that pays or gets an amount
+abbrev pub PaysNowhere : ProgramLists → TypeId → Type 0
+PaysNowhere lists t =
+    (path : List Hop) (s : TypeId) (n : TypeNode) → PathLeads lists path t s → Unfolds lists s.0 n → paid_by n ≡ None

@@ -6,7 +6,7 @@ ghost use Rattle.nomos_equality.specs.Differences.{SameForm};
 ghost use Rattle.nomos_equality.specs.Paths.{choices_of};
 
 use crate::constructor::{same_constructor, same_kind};
-use crate::parts::{choices_of, goes_by};
+use crate::node_parts::{choices_of, goes_by};
 use nomos_ir::type_node::{Branch, TypeNode};
 
 /// Whether each label of the first branches is one of the others.

@@ -3,9 +3,10 @@ ghost use Rattle.std.specs.Prelude.{◌≡◌, ◌<◌, length, IfOk, OnErr};
 ghost use Rattle.nomos_ir.specs.Unfold.{IsContractive};
 ghost use Rattle.nomos_equality.specs.Comparing.{nothing_compared, HasCompared, StaysCompared, AnswersComparison};
 
+use crate::difference::find_difference;
 use crate::equality::Comparison;
 use crate::known::Known;
-use crate::search::find_difference;
+use crate::reach::pays_nowhere;
 use nomos_ir::ids::TypeId;
 use nomos_ir::lists::AmountPairs;
 use nomos_ir::program::Program;
@@ -64,7 +65,11 @@ impl Equalities {
         }
         match find_difference(self.alloc, program, left, right)? {
             Comparison::Equal => {
-                self.known.gather(program, left, right)?;
+                if pays_nowhere(self.alloc, program, left)? {
+                    self.known.join(program, left, right)?;
+                } else {
+                    self.known.gather(program, left, right)?;
+                }
                 Ok(Comparison::Equal)
             }
             Comparison::Different(path) => Ok(Comparison::Different(path)),

@@ -2,6 +2,7 @@
 ghost use Rattle.std.specs.Prelude.{◌≡◌, ◌<◌, [], IsTrue, length, OnOk, OnErr, IfOk};
 ghost use Rattle.nomos_types.specs.Equality.{EqualShapes};
 ghost use Rattle.nomos_equality.specs.Comparing.{nothing_compared, HasCompared, IsFront, StaysCompared, FindsEqual};
+ghost use Rattle.nomos_equality.specs.Paths.{PaysNowhere};
 ghost use Rattle.nomos_equality.specs.mirror.Search.{IsFormed, IsMet, HasNodes, Follows, FollowsLabels};
 ghost use Rattle.nomos_equality.specs.mirror.Known.{compared_by, Among, visit_at, MeetsPair, Spreads};
 ghost use Rattle.nomos_equality.specs.mirror.Known.{NotesPaid, IsSpread, HasGathered};
@@ -9,8 +10,8 @@ ghost use Rattle.nomos_equality.specs.mirror.Known.{NotesPaid, IsSpread, HasGath
 use crate::amount_table::AmountTable;
 use crate::constructor::paid_by;
 use crate::hop::Hop;
+use crate::node_parts::{choices_of, part_by};
 use crate::pair_table::PairTable;
-use crate::parts::{choices_of, part_by};
 use nomos_ir::ids::TypeId;
 use nomos_ir::lists::AmountPairs;
 use nomos_ir::program::Program;
@@ -192,6 +193,32 @@ impl Known {
                 Err(error)
             }
         }
+    }
+
+    /// Adds two types of equal shapes from which no amount is reached, without what follows from them; where memory
+    /// runs out, nothing is added.
+    pub(crate) fn join(
+        &mut self,
+        program: &Program,
+        left: TypeId,
+        right: TypeId,
+    ) -> Result<(), AllocError>
+        requires formed { IsFormed program.now }
+        requires left { left.0 < length program.now.types }
+        requires right { right.0 < length program.now.types }
+        requires shapes { EqualShapes program.now left right }
+        requires free { PaysNowhere program.now left }
+        requires compared { HasCompared program.now (compared_by self.old) }
+        ensures compared { HasCompared program.now (compared_by self.new) }
+        ensures kept { StaysCompared (compared_by self.old) (compared_by self.new) }
+        ensures finds { OnOk result (FindsEqual program.now left right (compared_by self.old) (compared_by self.new)) }
+        ensures err { OnErr result (compared_by self.new ≡ compared_by self.old) }
+    {
+        let left = unfold(program, left);
+        let right = unfold(program, right);
+        let count = program.lists().types.len();
+        self.pairs.insert(left, right, count)?;
+        Ok(())
     }
 
     /// The pairs of amounts that are known.

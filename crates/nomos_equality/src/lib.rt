@@ -1,15 +1,21 @@
-//! Whether two types are equal, and between which pairs of amounts that needs equality.
+//! Whether two types are equal, and whether a shared type is synchronizing, and between which pairs of amounts that
+//! needs equality.
 #![tactic(auto)]
 
 mod amount_table;
+pub mod carriers;
 mod choices;
-mod classes;
 mod constructor;
+mod continuation_walk;
+mod continuations;
+mod difference;
 pub mod equalities;
 pub mod equality;
 pub mod hop;
 mod known;
+pub mod node_parts;
 mod pair_table;
-pub mod parts;
-mod search;
-mod told;
+mod reach;
+pub mod synchronizing;
+mod told_pairs;
+mod type_classes;

@@ -3,7 +3,7 @@ ghost use Rattle.std.specs.Prelude.{◌≡◌, ◌≤◌, ◌<◌, ◌+◌, ◌/
 ghost use Rattle.nomos_equality.specs.mirror.PairTables.{Puts, has_bit, bit_of, HasSameBits, HasWords, SetsOne, SetsPair};
 ghost use Rattle.nomos_equality.specs.mirror.ToldPairs.{pairs_of};
 
-use crate::told::{Told, same, then};
+use crate::told_pairs::{ToldPairs, same, then};
 use nomos_ir::ids::TypeId;
 use std::alloc::{AllocError, Global};
 use std::marker::Model;
@@ -14,7 +14,7 @@ pub(crate) struct PairTable {
     alloc: Global,
     /// For each left type the bits of the right ones, 64 in a word.
     rows: Vec<Vec<u64>>,
-    put: Told,
+    put: ToldPairs,
 }
 
 impl Model for PairTable {
@@ -120,7 +120,7 @@ impl PairTable {
         PairTable {
             alloc,
             rows: Vec::new(alloc),
-            put: Told::Nothing,
+            put: ToldPairs::Nothing,
         }
     }
 
@@ -154,14 +154,14 @@ impl PairTable {
     }
 
     /// What was put so far.
-    pub(crate) fn told(&self) -> Told
+    pub(crate) fn told(&self) -> ToldPairs
         ensures { pairs_of result ≡ self.now }
     {
         same(&self.put)
     }
 
     /// Goes back to what was put before. No pair is known to be there then.
-    pub(crate) fn back(&mut self, before: Told)
+    pub(crate) fn back(&mut self, before: ToldPairs)
         ensures { self.new ≡ pairs_of before }
     {
         self.rows.clear();

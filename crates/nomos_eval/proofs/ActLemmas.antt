@@ -7,12 +7,12 @@ use Rattle.nomos_ir.specs.Evaluation.{ends, faults, go_on, on_numbers, put_befor
 use Rattle.nomos_ir.specs.Value.{Value, list, ValueList, no_values, value}
 use Rattle.nomos_ir.specs.Weight.{weight, list_weight, max_weight}
 use Rattle.nomos_ir.proofs.EvaluationLaws.{evaluation_from}
-use Rattle.nomos_eval.specs.declared.act.Act.{Act}
-use Rattle.nomos_eval.specs.declared.act.Act.TheVariants as act
+use Rattle.nomos_eval.specs.declared.pending.Pending.{Pending}
+use Rattle.nomos_eval.specs.declared.pending.Pending.TheVariants as act
 use Rattle.nomos_eval.specs.declared.datum.Datum.{Datum}
 use Rattle.nomos_eval.specs.declared.datum.Datum.TheVariants as datum
 use Rattle.nomos_eval.specs.declared.evaluator.Evaluator.{Evaluator}
-use Rattle.nomos_eval.specs.declared.numbers.Operator.{Operator}
+use Rattle.nomos_eval.specs.declared.numbers.NumberOperator.{NumberOperator}
 use Rattle.nomos_ir.specs.declared.fault.Fault.{Fault}
 use Rattle.nomos_ir.specs.declared.or_no_memory.OrNoMemory.{OrNoMemory}
 use Rattle.nomos_ir.specs.declared.or_no_memory.OrNoMemory.TheVariants as stop
@@ -54,8 +54,8 @@ taken old mid others x y last mid_is first others_is =
     record { last = last; first = first ∙ ap top_datum mid_is; rest_is = others_is ∙ ap below_top mid_is }
 
 -- an operator, by the two topmost values
-numbers-step : (program : ProgramLists) (lists : List ValueList) (scopes : Variables) (todo : List Act)
-    (operator : Operator) (old others : List Datum) (x y : Datum) (n : ℕ) → AreTaken old x y others
+numbers-step : (program : ProgramLists) (lists : List ValueList) (scopes : Variables) (todo : List Pending)
+    (operator : NumberOperator) (old others : List Datum) (x y : Datum) (n : ℕ) → AreTaken old x y others
     → rest (evaluation_from program) program scopes (act.Numbers operator ∷ todo) (map (datum_value lists) old) n
     ≡ go_on (on_numbers (operation operator) (datum_value lists x) (datum_value lists y) n)
     (λ v. rest (evaluation_from program) program scopes todo (v ∷ map (datum_value lists) others))
@@ -74,7 +74,7 @@ numbers-step program lists scopes todo operator old others x y n took =
     ∙ ap (λ c. go_on (on_numbers (operation operator) (datum_value lists x) (datum_value lists y) n)
     (λ v. rest (evaluation_from program) program scopes todo (v ∷ c))) others_is
 
-pub numbers-done : (operator : Operator) (old : Evaluator) (mid others values : List Datum) (x y d : Datum)
+pub numbers-done : (operator : NumberOperator) (old : Evaluator) (mid others values : List Datum) (x y d : Datum)
     → IsSound old
     → y ≡ top_datum old.values → mid ≡ below_top old.values → x ≡ top_datum mid → others ≡ below_top mid
     → ((lists : List ValueList) (n : ℕ)
@@ -107,7 +107,7 @@ numbers-done operator old mid others values x y d sound last mid_is first others
       less = omega arith;
     })
 
-pub numbers-fault : (operator : Operator) (old : Evaluator) (mid others : List Datum) (x y : Datum)
+pub numbers-fault : (operator : NumberOperator) (old : Evaluator) (mid others : List Datum) (x y : Datum)
     (why : OrNoMemory Fault) → y ≡ top_datum old.values → mid ≡ below_top old.values → x ≡ top_datum mid
     → others ≡ below_top mid → Operated operator x y (Err why) → Stops (act.Numbers operator) old why
 numbers-fault operator old mid others x y (stop.Answer f) last mid_is first others_is gave =
@@ -118,7 +118,7 @@ numbers-fault operator old mid others x y (stop.Answer f) last mid_is first othe
 numbers-fault operator old mid others x y stop.NoMemory last mid_is first others_is gave = tt
 
 -- `::`, by the two topmost values
-put-step : (program : ProgramLists) (lists : List ValueList) (scopes : Variables) (todo : List Act)
+put-step : (program : ProgramLists) (lists : List ValueList) (scopes : Variables) (todo : List Pending)
     (old others : List Datum) (x y : Datum) (n : ℕ) → AreTaken old x y others
     → rest (evaluation_from program) program scopes (act.PutBefore ∷ todo) (map (datum_value lists) old) n
     ≡ go_on (put_before (datum_value lists x) (datum_value lists y) n)

@@ -5,8 +5,8 @@ use Rattle.nomos_ir.specs.declared.ids.VarId.{VarId}
 use Rattle.nomos_ir.specs.Evaluation.{Environment, Evaluation, ends, faults, go_on}
 use Rattle.nomos_ir.specs.Value.{ValueList}
 use Rattle.nomos_ir.proofs.EvaluationLaws.{evaluation_from, evaluation-whole}
-use Rattle.nomos_eval.specs.declared.act.Act.{Act}
-use Rattle.nomos_eval.specs.declared.act.Act.TheVariants as act
+use Rattle.nomos_eval.specs.declared.pending.Pending.{Pending}
+use Rattle.nomos_eval.specs.declared.pending.Pending.TheVariants as act
 use Rattle.nomos_eval.specs.declared.around.Around.{Around}
 use Rattle.nomos_eval.specs.declared.datum.Datum.{Datum}
 use Rattle.nomos_eval.specs.mirror.Around.{Rises}
@@ -41,7 +41,8 @@ first t env a same rises =
     }
 
 pub begun : (t : TermId) (env : Environment) (a : Around) (none scopes : List (List (VarId × Datum))) (place : ℕ)
-    (todo before : List Act) (values : List Datum) (lists : List ValueList) → env ≡ a.env.now → Rises a.env.now a.known
+    (todo before : List Pending) (values : List Datum) (lists : List ValueList) → env ≡ a.env.now
+    → Rises a.env.now a.known
     → none ≡ [] → place ≡ length none → scopes ≡ none ++ [] ∷ [] → before ≡ []
     → todo ≡ act.Term (record { variables = place; calls = 0 }) t ∷ before → values ≡ [] → lists ≡ []
     → IsBegun t env (record { todo = todo; values = values; lists = lists; scopes = scopes; around = a })
@@ -52,7 +53,7 @@ begun t env a none scopes place todo before values lists same rises none_is plac
     let todo_is : todo ≡ act.Term (record { variables = 0; calls = 0 }) t ∷ [] =
     planned ∙ ap (λ l. act.Term (record { variables = place; calls = 0 }) t ∷ l) before_is
     ∙ ap (λ p. act.Term (record { variables = p; calls = 0 }) t ∷ []) place_zero in
-    let P : List Act → Type 0 = λ l.
+    let P : List Pending → Type 0 = λ l.
     IsBegun t env (record { todo = l; values = values; lists = lists; scopes = scopes; around = a }) in
     let Q : List Datum → Type 0 = λ l. IsBegun t env (record {
       todo = act.Term (record { variables = 0; calls = 0 }) t ∷ [];

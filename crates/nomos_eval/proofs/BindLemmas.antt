@@ -11,9 +11,9 @@ use Rattle.nomos_ir.specs.declared.lists.ProgramLists.{ProgramLists}
 use Rattle.nomos_ir.specs.Evaluation.{faults, go_on, nought, max_calls, bind_arguments, body_evaluation}
 use Rattle.nomos_ir.specs.Value.{Value, ValueList}
 use Rattle.nomos_ir.proofs.EvaluationLaws.{evaluation_from}
-use Rattle.nomos_eval.specs.declared.act.Act.{Act}
-use Rattle.nomos_eval.specs.declared.act.Act.TheVariants as act
-use Rattle.nomos_eval.specs.declared.act.Scope.{Scope}
+use Rattle.nomos_eval.specs.declared.pending.Pending.{Pending}
+use Rattle.nomos_eval.specs.declared.pending.Pending.TheVariants as act
+use Rattle.nomos_eval.specs.declared.pending.TermScope.{TermScope}
 use Rattle.nomos_eval.specs.declared.around.Around.{Around}
 use Rattle.nomos_eval.specs.declared.datum.Datum.{Datum}
 use Rattle.nomos_eval.specs.declared.datum.Datum.TheVariants as datum
@@ -194,16 +194,16 @@ module _ (program : ProgramLists) (calls : ℕ) (f : FnId) (count : ℕ) (old : 
       })
 
   -- the body of a function
-  pub enter-done : (d : FnDecl) (todo : List Act) → slice_get program.fns f.0 ≡ Some d
+  pub enter-done : (d : FnDecl) (todo : List Pending) → slice_get program.fns f.0 ≡ Some d
       → names ≡ map (λ par. par.0) d.pars → calls < max_calls
       → todo ≡ act.Term (record { variables = place; calls = calls + 1 }) d.body ∷ old.todo
       → IsDoneFor program (act.Enter calls f count) old
       (record { todo = todo; values = ds; lists = old.lists; scopes = scopes; around = old.around })
   enter-done d todo some names_are few planned =
-      let P : List Act → Type 0 = λ l. IsDoneFor program (act.Enter calls f count) old
+      let P : List Pending → Type 0 = λ l. IsDoneFor program (act.Enter calls f count) old
       (record { todo = l; values = ds; lists = old.lists; scopes = scopes; around = old.around }) in
       let held_in = binding.sound (length old.lists) sound.values sound.scopes in
-      let inner : Scope = record { variables = place; calls = calls + 1 } in
+      let inner : TermScope = record { variables = place; calls = calls + 1 } in
       let all_held : Variables = record { bound = map (held old.lists) scopes; around = old.around.env.now } in
       let env : variables_at all_held inner ≡ bind_arguments d (arguments_on count (values_found old)) =
       ap (λ k. get_or (map (held old.lists) scopes) place [] ++ seen_in k old.around.env.now) (add-one calls)
@@ -241,13 +241,13 @@ module _ (program : ProgramLists) (calls : ℕ) (f : FnId) (count : ℕ) (old : 
         less = omega arith;
       })
 
-  pub enter-none-at : (todo : List Act) (values : List Datum) (lists : List ValueList) (around : Around)
+  pub enter-none-at : (todo : List Pending) (values : List Datum) (lists : List ValueList) (around : Around)
       → todo ≡ old.todo → lists ≡ old.lists → around ≡ old.around → slice_get program.fns f.0 ≡ None → values ≡
       datum.Int (pos 0) ∷ ds
       → IsDoneFor program (act.Enter calls f count) old
       (record { todo = todo; values = values; lists = lists; scopes = scopes; around = around })
   enter-none-at todo values lists around todo_is lists_are around_is none pushed =
-      let P : List Act → Type 0 = λ l. IsDoneFor program (act.Enter calls f count) old
+      let P : List Pending → Type 0 = λ l. IsDoneFor program (act.Enter calls f count) old
       (record { todo = l; values = values; lists = lists; scopes = scopes; around = around }) in
       let Q : List ValueList → Type 0 = λ l.
       IsDoneFor program (act.Enter calls f count) old
@@ -256,7 +256,7 @@ module _ (program : ProgramLists) (calls : ℕ) (f : FnId) (count : ℕ) (old : 
       (record { todo = old.todo; values = values; lists = old.lists; scopes = scopes; around = a }) in
       subst P (sym todo_is) (subst Q (sym lists_are) (subst R (sym around_is) (enter-none values none pushed)))
 
-  pub enter-done-at : (d : FnDecl) (todo bound_todo : List Act) (lists : List ValueList) (around : Around)
+  pub enter-done-at : (d : FnDecl) (todo bound_todo : List Pending) (lists : List ValueList) (around : Around)
       → bound_todo ≡ old.todo → lists ≡ old.lists → around ≡ old.around → slice_get program.fns f.0 ≡ Some d → names
       ≡ map (λ par. par.0) d.pars → calls < max_calls
       → todo ≡ act.Term (record { variables = place; calls = calls + 1 }) d.body ∷ bound_todo

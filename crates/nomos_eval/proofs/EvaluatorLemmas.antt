@@ -14,9 +14,9 @@ use Rattle.nomos_ir.specs.Bindings.{bound_to}
 use Rattle.nomos_ir.specs.Evaluation.{Environment, nought}
 use Rattle.nomos_ir.specs.Value.{Value, list, ValueList, no_values}
 use Rattle.nomos_ir.proofs.EvaluationLaws.{evaluation_from}
-use Rattle.nomos_eval.specs.declared.act.Act.{Act}
-use Rattle.nomos_eval.specs.declared.act.Act.TheVariants as act
-use Rattle.nomos_eval.specs.declared.act.Scope.{Scope}
+use Rattle.nomos_eval.specs.declared.pending.Pending.{Pending}
+use Rattle.nomos_eval.specs.declared.pending.Pending.TheVariants as act
+use Rattle.nomos_eval.specs.declared.pending.TermScope.{TermScope}
 use Rattle.nomos_eval.specs.declared.datum.Datum.{Datum}
 use Rattle.nomos_eval.specs.declared.datum.Datum.TheVariants as datum
 use Rattle.nomos_eval.specs.declared.evaluator.Evaluator.{Evaluator}
@@ -117,7 +117,7 @@ at-held lists zero (s ∷ ss) = refl
 at-held lists (suc k) (s ∷ ss) = at-held lists k ss
 
 -- a variable that is bound in the scope
-pub found-bound : (scopes : List (List (VarId × Datum))) (scope : Scope) (v : VarId) (a : Around)
+pub found-bound : (scopes : List (List (VarId × Datum))) (scope : TermScope) (v : VarId) (a : Around)
     (lists : List ValueList) (d : Datum) → Rises a.env.now a.known
     → AllByRecursion (AllByRecursion (λ b. reach b.1 ≤ length lists)) scopes
     → Some d ≡ bound_to v.0 (get_or scopes scope.variables []) → IsFound scopes scope v a lists a lists d
@@ -135,7 +135,7 @@ found-bound scopes scope v a lists d rises inside is =
     }
 
 -- what is not bound in the scope is looked up around it
-around-is : (scopes : List (List (VarId × Datum))) (scope : Scope) (v : VarId) (env : Environment)
+around-is : (scopes : List (List (VarId × Datum))) (scope : TermScope) (v : VarId) (env : Environment)
     (lists : List ValueList) → None ≡ bound_to v.0 (get_or scopes scope.variables [])
     → unwrap_or (bound_to v.0 (seen_in scope.calls env)) nought ≡ unwrap_or (bound_to v.0
     (variables_at (record { bound = map (held lists) scopes; around = env }) scope)) nought
@@ -145,7 +145,7 @@ around-is scopes scope v env lists none =
     (bound-none lists v.0 (seen_in scope.calls env) (get_or scopes scope.variables []) none))
 
 -- a function sees no more
-pub found-nothing : (scopes : List (List (VarId × Datum))) (scope : Scope) (v : VarId) (a : Around)
+pub found-nothing : (scopes : List (List (VarId × Datum))) (scope : TermScope) (v : VarId) (a : Around)
     (lists : List ValueList) → Rises a.env.now a.known → 0 < scope.calls
     → None ≡ bound_to v.0 (get_or scopes scope.variables [])
     → IsFound scopes scope v a lists a lists (datum.Int (pos 0))
@@ -160,7 +160,7 @@ found-nothing scopes scope v a lists rises some none =
           ∙ around-is scopes scope v a.env.now lists none;
     }
 
-pub found-around : (scopes : List (List (VarId × Datum))) (scope : Scope) (v : VarId) (a new : Around)
+pub found-around : (scopes : List (List (VarId × Datum))) (scope : TermScope) (v : VarId) (a new : Around)
     (lists after : List ValueList) (d : Datum) → scope.calls ≤ 0
     → None ≡ bound_to v.0 (get_or scopes scope.variables []) → IsLookedUp a lists v new after d
     → IsFound scopes scope v a lists new after d
@@ -176,7 +176,7 @@ found-around scopes scope v a new lists after d outermost none looked =
     }
 
 -- a variable that was found is the value of its node
-pub variable-entered : (scope : Scope) (v : VarId) (old : Evaluator) (around : Around) (lists : List ValueList)
+pub variable-entered : (scope : TermScope) (v : VarId) (old : Evaluator) (around : Around) (lists : List ValueList)
     (d : Datum) (values : List Datum) → IsSound old
     → IsFound old.scopes scope v old.around old.lists around lists d → values ≡ d ∷ old.values → (at : ℕ)
     → IsEntered scope (node.Var at v) old
@@ -220,7 +220,7 @@ pub last-list : (lists : List ValueList) (vs : ValueList) → get_or (lists ++ v
 last-list lists vs = get_or-append_seam lists vs [] no_values
 
 -- the empty list
-pub nil-entered : (scope : Scope) (at : ℕ) (k : Kind) (old : Evaluator) (place : ℕ) (lists : List ValueList)
+pub nil-entered : (scope : TermScope) (at : ℕ) (k : Kind) (old : Evaluator) (place : ℕ) (lists : List ValueList)
     (values : List Datum) → IsSound old → place ≡ length old.lists → lists ≡ old.lists ++ no_values ∷ []
     → values ≡ datum.List place ∷ old.values
     → IsEntered scope (node.Nil at k) old
@@ -279,23 +279,23 @@ nil-entered scope at k old place lists values sound place_is added pushed =
     })
 
 -- a call
-arguments-in : (count : ℕ) (scope : Scope) (ts : List TermId) (todo : List Act) → scope.variables < count
+arguments-in : (count : ℕ) (scope : TermScope) (ts : List TermId) (todo : List Pending) → scope.variables < count
     → AllByRecursion (ScopeIn count) todo → AllByRecursion (ScopeIn count) (argument_acts scope ts ++ todo)
 arguments-in count scope [] todo inside others = others
 arguments-in count scope (t ∷ ts) todo inside others = (inside, arguments-in count scope ts todo inside others)
 
-arguments-work : (scope : Scope) (ts : List TermId) (todo : List Act)
+arguments-work : (scope : TermScope) (ts : List TermId) (todo : List Pending)
     → work (argument_acts scope ts ++ todo) ≡ work todo
 arguments-work scope [] todo = refl
 arguments-work scope (t ∷ ts) todo = omega (arith, arguments-work scope ts todo)
 
-pub call-entered : (scope : Scope) (at : ℕ) (f : FnId) (ts : List TermId) (old : Evaluator) (todo : List Act)
+pub call-entered : (scope : TermScope) (at : ℕ) (f : FnId) (ts : List TermId) (old : Evaluator) (todo : List Pending)
     → IsSound old → scope.variables < length old.scopes
     → todo ≡ argument_acts scope ts ++ act.Enter scope.calls f (length ts) ∷ old.todo
     → IsEntered scope (node.Call at f ts) old
     (record { todo = todo; values = old.values; lists = old.lists; scopes = old.scopes; around = old.around })
 call-entered scope at f ts old todo sound inside planned =
-    let P : List Act → Type 0 = λ l. IsEntered scope (node.Call at f ts) old
+    let P : List Pending → Type 0 = λ l. IsEntered scope (node.Call at f ts) old
     (record { todo = l; values = old.values; lists = old.lists; scopes = old.scopes; around = old.around }) in
     subst
     P
@@ -316,19 +316,19 @@ call-entered scope at f ts old todo sound inside planned =
     })
 
 -- what a call plans, under the name of its arguments
-pub call-planned : (scope : Scope) (f : FnId) (ts given : List TermId) (old new : List Act)
+pub call-planned : (scope : TermScope) (f : FnId) (ts given : List TermId) (old new : List Pending)
     → new ≡ argument_acts scope given ++ act.Enter scope.calls f (length given) ∷ old → given ≡ ts
     → new ≡ argument_acts scope ts ++ act.Enter scope.calls f (length ts) ∷ old
 call-planned scope f ts given old new planned same =
     planned ∙ ap (λ l. argument_acts scope l ++ act.Enter scope.calls f (length l) ∷ old) same
 
 -- the same of a node that is known to be of this form
-pub variable-found : (x : TermNode) (scope : Scope) (at : ℕ) (v : VarId) (old new : Evaluator) → x ≡ node.Var at v
+pub variable-found : (x : TermNode) (scope : TermScope) (at : ℕ) (v : VarId) (old new : Evaluator) → x ≡ node.Var at v
     → ((at : ℕ) → IsEntered scope (node.Var at v) old new) → IsEntered scope x old new
 variable-found x scope at v old new is entered =
     let P : TermNode → Type 0 = λ y. IsEntered scope y old new in subst P (sym is) (entered at)
 
-pub nil-found : (x : TermNode) (scope : Scope) (at : ℕ) (k : Kind) (old : Evaluator) (place : ℕ)
+pub nil-found : (x : TermNode) (scope : TermScope) (at : ℕ) (k : Kind) (old : Evaluator) (place : ℕ)
     (lists : List ValueList)
     (values : List Datum) → x ≡ node.Nil at k → IsSound old → place ≡ length old.lists
     → lists ≡ old.lists ++ no_values ∷ [] → values ≡ datum.List place ∷ old.values
@@ -352,8 +352,8 @@ nil-found x scope at k old place lists values is sound place_is added pushed =
     }) in
     subst P (sym is) (nil-entered scope at k old place lists values sound place_is added pushed)
 
-pub call-found : (x : TermNode) (scope : Scope) (at : ℕ) (f : FnId) (ts given : List TermId) (old : Evaluator)
-    (todo : List Act) → x ≡ node.Call at f ts → IsSound old → scope.variables < length old.scopes
+pub call-found : (x : TermNode) (scope : TermScope) (at : ℕ) (f : FnId) (ts given : List TermId) (old : Evaluator)
+    (todo : List Pending) → x ≡ node.Call at f ts → IsSound old → scope.variables < length old.scopes
     → todo ≡ argument_acts scope given ++ act.Enter scope.calls f (length given) ∷ old.todo → given ≡ ts
     → IsEntered scope x old (record {
       todo = todo;

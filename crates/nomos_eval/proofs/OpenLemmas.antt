@@ -8,10 +8,10 @@ use Rattle.nomos_ir.specs.declared.lists.ProgramLists.{ProgramLists}
 use Rattle.nomos_ir.specs.Evaluation.{go_on, taken_apart, bind_parts}
 use Rattle.nomos_ir.specs.Value.{Value, list, ValueList, no_values, value}
 use Rattle.nomos_ir.proofs.EvaluationLaws.{evaluation_from}
-use Rattle.nomos_eval.specs.declared.act.Act.{Act}
-use Rattle.nomos_eval.specs.declared.act.Act.TheVariants as act
-use Rattle.nomos_eval.specs.declared.act.Cases.{Cases}
-use Rattle.nomos_eval.specs.declared.act.Scope.{Scope}
+use Rattle.nomos_eval.specs.declared.pending.Pending.{Pending}
+use Rattle.nomos_eval.specs.declared.pending.Pending.TheVariants as act
+use Rattle.nomos_eval.specs.declared.pending.Cases.{Cases}
+use Rattle.nomos_eval.specs.declared.pending.TermScope.{TermScope}
 use Rattle.nomos_eval.specs.declared.datum.Datum.{Datum}
 use Rattle.nomos_eval.specs.declared.datum.Datum.TheVariants as datum
 use Rattle.nomos_eval.specs.declared.evaluator.Evaluator.{Evaluator}
@@ -24,7 +24,7 @@ use Rattle.nomos_eval.proofs.EvaluatorLemmas.{at-scope, values-more, scopes-more
 use Rattle.nomos_eval.proofs.RestLemmas.{go_on-next, rest-more}
 
 -- what is left is in scopes that are there, where more are added
-pub todo-higher : (n m : ℕ) (todo : List Act) → n ≤ m → AllByRecursion (ScopeIn n) todo
+pub todo-higher : (n m : ℕ) (todo : List Pending) → n ≤ m → AllByRecursion (ScopeIn n) todo
     → AllByRecursion (ScopeIn m) todo
 todo-higher n m [] less inside = tt
 todo-higher n m (act.Term s t ∷ todo) less inside = (omega (arith, inside.0), todo-higher n m todo less inside.1)
@@ -53,8 +53,8 @@ at-held lists zero (s ∷ ss) = refl
 at-held lists (suc k) (s ∷ ss) = at-held lists k ss
 
 -- a list that has parts, by the topmost value
-open-step : (program : ProgramLists) (lists : List ValueList) (scopes : Variables) (todo : List Act)
-    (scope : Scope) (c : Cases) (old : List Datum) (x : Value) (xs : ValueList) (n : ℕ)
+open-step : (program : ProgramLists) (lists : List ValueList) (scopes : Variables) (todo : List Pending)
+    (scope : TermScope) (c : Cases) (old : List Datum) (x : Value) (xs : ValueList) (n : ℕ)
     → datum_value lists (top_datum old) ≡ list (value x xs)
     → rest (evaluation_from program) program scopes (act.Open scope c ∷ todo) (map (datum_value lists) old) n
     ≡ go_on (evaluation_from program scope.calls
@@ -72,8 +72,9 @@ open-step program lists scopes todo scope c old x xs n is =
     (λ v. rest (evaluation_from program) program scopes todo (v ∷ l))) (below-found lists old)
 
 -- a list is taken apart, with its head and its tail in two more scopes
-pub open-done : (scope : Scope) (c : Cases) (old : Evaluator) (mid : List Datum)
-    (first second : List (List (VarId × Datum))) (todo : List Act) (place : ℕ) (h : Datum) (t with_head with_tail : ℕ)
+pub open-done : (scope : TermScope) (c : Cases) (old : Evaluator) (mid : List Datum)
+    (first second : List (List (VarId × Datum))) (todo : List Pending) (place : ℕ) (h : Datum)
+    (t with_head with_tail : ℕ)
     → IsSound old → scope.variables < length old.scopes → datum.List place ≡ top_datum old.values
     → mid ≡ below_top old.values → (reach h ≤ length old.lists) × (t < length old.lists)
     × (get_or old.lists place no_values ≡ value (datum_value old.lists h) (get_or old.lists t no_values))
@@ -105,7 +106,7 @@ open-done scope c old mid first second todo place h t with_head with_tail sound 
     let whole = (old.scopes ++ s1 ∷ []) ++ s2 ∷ [] in
     let longest : length whole ≡ length old.scopes
     + 2 = omega (arith, longer, length-append (old.scopes ++ s1 ∷ []) (s2 ∷ [])) in
-    let inner : Scope = record { variables = length (old.scopes ++ s1 ∷ []); calls = scope.calls } in
+    let inner : TermScope = record { variables = length (old.scopes ++ s1 ∷ []); calls = scope.calls } in
     let new : Evaluator = record {
       todo = act.Term inner c.full ∷
           old.todo;
@@ -208,14 +209,14 @@ module _ (m : Evaluator) (more : List ValueList) (sound : IsSound m) where
         rises = sound.rises;
       }
 
-  grown-left : (program : ProgramLists) (a : Act) (n : ℕ) → left_of program a m n ≡ left_of program a grown n
+  grown-left : (program : ProgramLists) (a : Pending) (n : ℕ) → left_of program a m n ≡ left_of program a grown n
   grown-left program a n =
       ap (λ ss. rest (evaluation_from program) program (record { bound = ss; around = m.around.env.now }) (a ∷ m.todo)
       (values_found m) n) (sym (scopes-more m.lists more m.scopes sound.scopes))
       ∙ ap (λ vs. rest (evaluation_from program) program (scopes_held grown) (a ∷ m.todo) vs n)
       (sym (values-more m.lists more m.values sound.values))
 
-  grown-done : (a : Act) (new : Evaluator) → IsDone a grown new → IsDone a m new
+  grown-done : (a : Pending) (new : Evaluator) → IsDone a grown new → IsDone a m new
   grown-done a new done =
       record {
         sound = done.sound;
@@ -224,8 +225,9 @@ module _ (m : Evaluator) (more : List ValueList) (sound : IsSound m) where
       }
 
 -- a list is taken apart, whose parts may be taken in
-pub open-parted : (scope : Scope) (c : Cases) (old : Evaluator) (mid : List Datum) (after : List ValueList)
-    (first second : List (List (VarId × Datum))) (todo : List Act) (place : ℕ) (h : Datum) (t with_head with_tail : ℕ)
+pub open-parted : (scope : TermScope) (c : Cases) (old : Evaluator) (mid : List Datum) (after : List ValueList)
+    (first second : List (List (VarId × Datum))) (todo : List Pending) (place : ℕ) (h : Datum)
+    (t with_head with_tail : ℕ)
     → IsSound old → scope.variables < length old.scopes → datum.List place ≡ top_datum old.values
     → mid ≡ below_top old.values → IsParted old.lists place after (Some (h, t))
     → with_head ≡ length old.scopes → first ≡ old.scopes ++ ((c.head, h) ∷ get_or old.scopes scope.variables []) ∷ []

@@ -7,9 +7,9 @@ use Rattle.nomos_ir.specs.declared.ids.TermId.{TermId}
 use Rattle.nomos_ir.specs.declared.lists.ProgramLists.{ProgramLists}
 use Rattle.nomos_ir.specs.Evaluation.{Environment, Evaluation, ends, faults, Counted, Evaluator, go_on, on_numbers, put_before, both, either, as_truth, opposite, chosen, taken_apart, bind_parts, each_of, body_evaluation}
 use Rattle.nomos_ir.specs.Value.{Value}
-use Rattle.nomos_eval.specs.declared.act.Act.{Act}
-use Rattle.nomos_eval.specs.declared.act.Act.TheVariants as act
-use Rattle.nomos_eval.specs.declared.act.Scope.{Scope}
+use Rattle.nomos_eval.specs.declared.pending.Pending.{Pending}
+use Rattle.nomos_eval.specs.declared.pending.Pending.TheVariants as act
+use Rattle.nomos_eval.specs.declared.pending.TermScope.{TermScope}
 use Rattle.nomos_eval.specs.mirror.Operation.{operation}
 use Rattle.nomos_eval.specs.mirror.Rest.{Variables, seen_in, top, below, arguments_on, below_by, follow, rest, argument_acts, ScopeIn}
 
@@ -44,7 +44,8 @@ each_of-next part (t ∷ ts) f g n same =
 
 module _ (from : Evaluator) (lists : ProgramLists) (scopes : Variables) where
   -- the arguments of a call
-  pub leaves-arguments : (s : Scope) (f : FnId) (count : ℕ) (ts : List TermId) (before : List Value) (todo : List Act)
+  pub leaves-arguments : (s : TermScope) (f : FnId) (count : ℕ) (ts : List TermId) (before : List Value)
+      (todo : List Pending)
       (values : List Value) (n : ℕ) → count ≡ length before + length ts
       → go_on (each_of (follow from lists scopes s) ts
       (λ vs. body_evaluation from s.calls (slice_get lists.fns f.0) (reverse before ++ vs)) n)
@@ -73,7 +74,7 @@ module _ (from : Evaluator) (lists : ProgramLists) (scopes : Variables) where
 
 -- one more place changes nothing of what is left
 module _ (from : Evaluator) (lists : ProgramLists) (scopes more : List Environment) (env : Environment) where
-  follow-more : (s : Scope) (t : TermId) → s.variables < length scopes
+  follow-more : (s : TermScope) (t : TermId) → s.variables < length scopes
       → follow from lists (record { bound = scopes ++ more; around = env }) s t ≡ follow from lists (record {
         bound =
             scopes;
@@ -82,7 +83,7 @@ module _ (from : Evaluator) (lists : ProgramLists) (scopes more : List Environme
   follow-more s t inside =
       ap (λ e. from s.calls (e ++ seen_in s.calls env) t) (get_or_append_left scopes more [] s.variables inside)
 
-  pub rest-more : (todo : List Act) (values : List Value) (n : ℕ) → AllByRecursion (ScopeIn (length scopes)) todo
+  pub rest-more : (todo : List Pending) (values : List Value) (n : ℕ) → AllByRecursion (ScopeIn (length scopes)) todo
       → rest from lists (record { bound = scopes ++ more; around = env }) todo values n ≡ rest from lists (record {
         bound = scopes;
         around = env;

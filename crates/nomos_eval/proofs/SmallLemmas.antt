@@ -13,10 +13,10 @@ use Rattle.std.specs.Prelude.{int_lt, unwrap_or}
 use Rattle.nomos_ir.specs.declared.fault.Fault.{Fault}
 use Rattle.nomos_ir.specs.declared.or_no_memory.OrNoMemory.{OrNoMemory}
 use Rattle.nomos_ir.specs.declared.value_node.ValueNode.{ValueNode}
-use Rattle.nomos_eval.specs.declared.numbers.Operator.{Operator}
-use Rattle.nomos_eval.specs.declared.numbers.Operator.TheVariants as operator
-use Rattle.nomos_eval.specs.declared.small.Part.{Part}
-use Rattle.nomos_eval.specs.declared.small.Part.TheVariants as part
+use Rattle.nomos_eval.specs.declared.numbers.NumberOperator.{NumberOperator}
+use Rattle.nomos_eval.specs.declared.numbers.NumberOperator.TheVariants as operator
+use Rattle.nomos_eval.specs.declared.small.SmallPart.{SmallPart}
+use Rattle.nomos_eval.specs.declared.small.SmallPart.TheVariants as part
 use Rattle.nomos_eval.specs.SmallTest.{Decides, IsSmallNode, IsSmallPart, IsSmallTest}
 use Rattle.nomos_eval.specs.mirror.Operation.{operation, operation_node}
 use Rattle.nomos_eval.specs.mirror.SmallPart.{IsNumber, equal_parts, less_parts, part_of, part_value}
@@ -124,7 +124,7 @@ module _ (lists : ProgramLists) (env : Environment) (t : TermId) where
         (record { value = unwrap_or (bound_to v.0 env) nought; nodes = 1; ended = refl; taken = refl }),
   )
 
-  pub small-less : (at : ℕ) (a b : TermId) (x y : Part) (first : Bool)
+  pub small-less : (at : ℕ) (a b : TermId) (x y : SmallPart) (first : Bool)
       → slice_get lists.terms t.0 ≡ Some (node.Less at a b) → IsSmallPart (slice_get lists.terms a.0)
       → x ≡ part_of (part_value env (slice_get lists.terms a.0)) → IsSmallPart (slice_get lists.terms b.0)
       → y ≡ part_of (part_value env (slice_get lists.terms b.0)) → first ≡ less_parts x y
@@ -140,7 +140,7 @@ module _ (lists : ProgramLists) (env : Environment) (t : TermId) where
             (less-decides v w 3),
       )
 
-  pub small-equal : (at : ℕ) (a b : TermId) (x y : Part) (first : Bool)
+  pub small-equal : (at : ℕ) (a b : TermId) (x y : SmallPart) (first : Bool)
       → slice_get lists.terms t.0 ≡ Some (node.Equal at a b) → IsSmallPart (slice_get lists.terms a.0)
       → x ≡ part_of (part_value env (slice_get lists.terms a.0)) → IsSmallPart (slice_get lists.terms b.0)
       → y ≡ part_of (part_value env (slice_get lists.terms b.0)) → first ≡ equal_parts x y
@@ -182,7 +182,7 @@ numbers-end lists env a b next x y left right =
     ∙ ap (λ w. on_numbers next (int x) w 3) right.1
 
 -- an operator between two numbers
-pub operator-comes : (lists : ProgramLists) (env : Environment) (o : Operator) (at : ℕ) (a b : TermId) (x y : ℤ)
+pub operator-comes : (lists : ProgramLists) (env : Environment) (o : NumberOperator) (at : ℕ) (a b : TermId) (x y : ℤ)
     → IsNumber env (slice_get lists.terms a.0) x → IsNumber env (slice_get lists.terms b.0) y
     → node_evaluation lists (evaluation_from lists) 0 env (operation_node o at a b) 1 ≡ operation o x y 3
 operator-comes lists env operator.Add at a b x y left right =

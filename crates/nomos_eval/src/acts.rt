@@ -1,12 +1,12 @@
 //! How what is left to do is done, other than to enter a term or a function.
 ghost use Rattle.std.specs.Prelude.{◌≡◌, ◌<◌, length};
-ghost use Rattle.nomos_eval.specs.declared.act.Act.TheVariants as act;
+ghost use Rattle.nomos_eval.specs.declared.pending.Pending.TheVariants as act;
 ghost use Rattle.nomos_eval.specs.mirror.Evaluator.{IsSound, Does, IsGiven, Operated, top_datum, below_top};
 
-use crate::act::{Act, Scope};
 use crate::datum::Datum;
 use crate::evaluator::{Evaluator, plan};
-use crate::numbers::{Given, Operator, operate};
+use crate::numbers::{NumberOperator, Yield, operate};
+use crate::pending::{Pending, TermScope};
 use nomos_ir::fault::Fault;
 use nomos_ir::ids::TermId;
 use nomos_ir::limits::MAX_WEIGHT;
@@ -27,7 +27,7 @@ pub(crate) fn take(values: &mut Stack<Datum>) -> Datum
 /// An operator takes the two topmost values.
 pub(crate) fn numbers(
     evaluator: &mut Evaluator<'_>,
-    operator: Operator,
+    operator: NumberOperator,
 ) -> Result<(), OrNoMemory<Fault>>
     requires { IsSound evaluator.old }
     ensures { Does (act.Numbers operator) evaluator.old evaluator.new result }
@@ -40,7 +40,11 @@ pub(crate) fn numbers(
 }
 
 // What an operator gives of two values: 0 where they are no numbers.
-fn number_of(operator: Operator, left: Datum, right: Datum) -> Result<Datum, OrNoMemory<Fault>>
+fn number_of(
+    operator: NumberOperator,
+    left: Datum,
+    right: Datum,
+) -> Result<Datum, OrNoMemory<Fault>>
     ensures { Operated operator left right result }
 {
     match (left, right) {
@@ -50,13 +54,13 @@ fn number_of(operator: Operator, left: Datum, right: Datum) -> Result<Datum, OrN
 }
 
 // What an operator gave, as a value or a fault.
-fn given(what: Given) -> Result<Datum, OrNoMemory<Fault>>
+fn given(what: Yield) -> Result<Datum, OrNoMemory<Fault>>
     ensures { IsGiven what result }
 {
     match what {
-        Given::Int(z) => Ok(Datum::Int(z)),
-        Given::Bool(b) => Ok(Datum::Bool(b)),
-        Given::Fault(fault) => Err(OrNoMemory::Answer(fault)),
+        Yield::Int(z) => Ok(Datum::Int(z)),
+        Yield::Bool(b) => Ok(Datum::Bool(b)),
+        Yield::Fault(fault) => Err(OrNoMemory::Answer(fault)),
     }
 }
 
@@ -89,7 +93,7 @@ pub(crate) fn turn_round(evaluator: &mut Evaluator<'_>) -> Result<(), OrNoMemory
 /// The part of an `if` that the topmost value takes.
 pub(crate) fn choose(
     evaluator: &mut Evaluator<'_>,
-    scope: Scope,
+    scope: TermScope,
     right: TermId,
     wrong: TermId,
 ) -> Result<(), OrNoMemory<Fault>>
@@ -101,14 +105,14 @@ pub(crate) fn choose(
         Datum::Bool(true) => right,
         _ => wrong,
     };
-    evaluator.todo.push(Act::Term(scope, part))?;
+    evaluator.todo.push(Pending::Term(scope, part))?;
     Ok(())
 }
 
 /// The topmost value is the left part of an `and`: the right one follows after true.
 pub(crate) fn both(
     evaluator: &mut Evaluator<'_>,
-    scope: Scope,
+    scope: TermScope,
     right: TermId,
 ) -> Result<(), OrNoMemory<Fault>>
     requires sound { IsSound evaluator.old }
@@ -116,7 +120,10 @@ pub(crate) fn both(
     ensures { Does (act.Both scope right) evaluator.old evaluator.new result }
 {
     match take(&mut evaluator.values) {
-        Datum::Bool(true) => Ok(plan(&mut evaluator.todo, &[Act::Term(scope, right), Act::Truth])?),
+        Datum::Bool(true) => Ok(plan(
+            &mut evaluator.todo,
+            &[Pending::Term(scope, right), Pending::Truth],
+        )?),
         Datum::Bool(false) => Ok(evaluator.values.push(Datum::Bool(false))?),
         _ => Ok(evaluator.values.push(Datum::Int(0))?),
     }
@@ -125,7 +132,7 @@ pub(crate) fn both(
 /// The topmost value is the left part of an `or`: the right one follows after false.
 pub(crate) fn either(
     evaluator: &mut Evaluator<'_>,
-    scope: Scope,
+    scope: TermScope,
     right: TermId,
 ) -> Result<(), OrNoMemory<Fault>>
     requires sound { IsSound evaluator.old }
@@ -136,7 +143,7 @@ pub(crate) fn either(
         Datum::Bool(true) => Ok(evaluator.values.push(Datum::Bool(true))?),
         Datum::Bool(false) => Ok(plan(
             &mut evaluator.todo,
-            &[Act::Term(scope, right), Act::Truth],
+            &[Pending::Term(scope, right), Pending::Truth],
         )?),
         _ => Ok(evaluator.values.push(Datum::Int(0))?),
     }

@@ -4,7 +4,7 @@ ghost use Rattle.nomos_ir.specs.Bindings.{bound_to};
 ghost use Rattle.nomos_eval.specs.mirror.Around.{IsHigher, IsLookedUp, IsPlaceBelow, Rises, StandsNotBelow};
 
 use crate::datum::Datum;
-use crate::lists::Lists;
+use crate::list_store::Lists;
 use crate::values::load;
 use nomos_ir::ids::VarId;
 use nomos_ir::value::Value;

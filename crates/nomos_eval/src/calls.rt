@@ -1,12 +1,12 @@
 //! How functions are entered, and lists taken apart.
 ghost use Rattle.std.specs.Prelude.{◌≡◌, ◌<◌, length, map, slice_get, IfOk};
-ghost use Rattle.nomos_eval.specs.declared.act.Act.TheVariants as act;
+ghost use Rattle.nomos_eval.specs.declared.pending.Pending.TheVariants as act;
 ghost use Rattle.nomos_eval.specs.mirror.Evaluator.{IsSound, IsBinding, Does, DoesFor};
 
-use crate::act::{Act, Cases, Scope};
 use crate::acts::take;
 use crate::datum::Datum;
 use crate::evaluator::Evaluator;
+use crate::pending::{Cases, Pending, TermScope};
 use crate::values::parts;
 use nomos_ir::fault::Fault;
 use nomos_ir::find::find_function;
@@ -22,7 +22,7 @@ const MAX_CALLS: u32 = 1000;
 /// The topmost value is taken apart.
 pub(crate) fn open(
     evaluator: &mut Evaluator<'_>,
-    scope: Scope,
+    scope: TermScope,
     cases: Cases,
 ) -> Result<(), OrNoMemory<Fault>>
     requires sound { IsSound evaluator.old }
@@ -30,10 +30,10 @@ pub(crate) fn open(
     ensures { Does (act.Open scope cases) evaluator.old evaluator.new result }
 {
     let Datum::List(place) = take(&mut evaluator.values) else {
-        return Ok(evaluator.todo.push(Act::Term(scope, cases.full))?);
+        return Ok(evaluator.todo.push(Pending::Term(scope, cases.full))?);
     };
     let Some((head, tail)) = parts(&mut evaluator.lists, place)? else {
-        return Ok(evaluator.todo.push(Act::Term(scope, cases.empty))?);
+        return Ok(evaluator.todo.push(Pending::Term(scope, cases.empty))?);
     };
     let with_head = evaluator
         .scopes
@@ -41,11 +41,11 @@ pub(crate) fn open(
     let with_tail = evaluator
         .scopes
         .add_more(cases.tail, Datum::List(tail), with_head)?;
-    let inner = Scope {
+    let inner = TermScope {
         variables: with_tail,
         calls: scope.calls,
     };
-    Ok(evaluator.todo.push(Act::Term(inner, cases.full))?)
+    Ok(evaluator.todo.push(Pending::Term(inner, cases.full))?)
 }
 
 // The variable of a parameter, if there is such a parameter.
@@ -100,9 +100,9 @@ pub(crate) fn enter_function(
         return Err(OrNoMemory::Answer(Fault::Depth));
     }
     let variables = bind(evaluator, function.pars.as_slice(), count)?;
-    let inner = Scope {
+    let inner = TermScope {
         variables,
         calls: calls + 1,
     };
-    Ok(evaluator.todo.push(Act::Term(inner, function.body))?)
+    Ok(evaluator.todo.push(Pending::Term(inner, function.body))?)
 }

@@ -9,12 +9,12 @@ ghost use Rattle.nomos_eval.specs.mirror.Begin.{IsBegun};
 ghost use Rattle.nomos_eval.specs.mirror.Operation.{given};
 ghost use Rattle.nomos_eval.specs.mirror.TermsFound.{IsValue};
 
-use crate::act::{Act, Scope};
 use crate::around::{Around, bound_value};
+use crate::evaluating::run;
 use crate::evaluator::Evaluator;
-use crate::lists::Lists;
-use crate::numbers::Given;
-use crate::run::run;
+use crate::list_store::Lists;
+use crate::numbers::Yield;
+use crate::pending::{Pending, TermScope};
 use crate::scopes::Scopes;
 use crate::small::small_operation;
 use crate::values::unload;
@@ -64,12 +64,12 @@ fn begin<'a>(
 {
     let mut scopes = Scopes::new(alloc);
     let variables = scopes.add_nothing()?;
-    let scope = Scope {
+    let scope = TermScope {
         variables,
         calls: 0,
     };
     let mut todo = Stack::new(alloc);
-    todo.push(Act::Term(scope, t))?;
+    todo.push(Pending::Term(scope, t))?;
     Ok(Evaluator {
         todo,
         values: Stack::new(alloc),
@@ -149,12 +149,12 @@ fn node_bound(
 }
 
 // What an operator gave, as a node or a fault.
-fn node_given(what: Given) -> Result<ValueNode, OrNoMemory<Fault>>
+fn node_given(what: Yield) -> Result<ValueNode, OrNoMemory<Fault>>
     ensures { (n : ℕ) → IsValue result (given what n) }
 {
     match what {
-        Given::Int(z) => Ok(ValueNode::Int(z)),
-        Given::Bool(b) => Ok(ValueNode::Bool(b)),
-        Given::Fault(fault) => Err(OrNoMemory::Answer(fault)),
+        Yield::Int(z) => Ok(ValueNode::Int(z)),
+        Yield::Bool(b) => Ok(ValueNode::Bool(b)),
+        Yield::Fault(fault) => Err(OrNoMemory::Answer(fault)),
     }
 }

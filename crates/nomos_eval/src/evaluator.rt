@@ -1,6 +1,6 @@
 //! The state of an evaluation, and what the forms of terms leave to do.
 ghost use Rattle.std.specs.Prelude.{◌≡◌, ◌<◌, ◌≤◌, ◌++◌, ◌∷◌, ℕ, length, IfOk, OnOk};
-ghost use Rattle.nomos_eval.specs.declared.act.Act.TheVariants as act;
+ghost use Rattle.nomos_eval.specs.declared.pending.Pending.TheVariants as act;
 ghost use Rattle.std.specs.List.{AllByRecursion};
 ghost use Rattle.nomos_ir.specs.declared.term_node.TermNode.TheVariants as node;
 ghost use Rattle.nomos_eval.specs.mirror.Around.{Rises};
@@ -8,11 +8,11 @@ ghost use Rattle.nomos_eval.specs.mirror.EvalTable.{reach};
 ghost use Rattle.nomos_eval.specs.mirror.Evaluator.{IsSound, IsEntered, IsFound};
 ghost use Rattle.nomos_eval.specs.mirror.Rest.{argument_acts};
 
-use crate::act::{Act, Cases, Scope};
 use crate::around::{Around, look_around};
 use crate::datum::Datum;
-use crate::lists::Lists;
-use crate::numbers::Operator;
+use crate::list_store::Lists;
+use crate::numbers::NumberOperator;
+use crate::pending::{Cases, Pending, TermScope};
 use crate::scopes::Scopes;
 use nomos_ir::ids::{FnId, TermId, VarId};
 use nomos_ir::stack::Stack;
@@ -23,7 +23,7 @@ use std::alloc::AllocError;
 /// around the term.
 #[derive(Drop)]
 pub(crate) struct Evaluator<'a> {
-    pub(crate) todo: Stack<Act>,
+    pub(crate) todo: Stack<Pending>,
     pub(crate) values: Stack<Datum>,
     pub(crate) lists: Lists,
     pub(crate) scopes: Scopes,
@@ -31,7 +31,7 @@ pub(crate) struct Evaluator<'a> {
 }
 
 /// Puts acts on the top, the first one topmost.
-pub(crate) fn plan(todo: &mut Stack<Act>, acts: &[Act]) -> Result<(), AllocError>
+pub(crate) fn plan(todo: &mut Stack<Pending>, acts: &[Pending]) -> Result<(), AllocError>
     ensures { OnOk result (todo.new ≡ acts.now ++ todo.old) }
 {
     let mut left = acts.len();
@@ -47,7 +47,7 @@ fn look_up(
     scopes: &Scopes,
     around: &mut Around<'_>,
     lists: &mut Lists,
-    scope: Scope,
+    scope: TermScope,
     v: VarId,
 ) -> Result<Datum, AllocError>
     requires inside { scope.variables < length scopes.now }
@@ -65,7 +65,11 @@ fn look_up(
 }
 
 // Finds the value of a variable.
-fn enter_variable(evaluator: &mut Evaluator<'_>, scope: Scope, v: VarId) -> Result<(), AllocError>
+fn enter_variable(
+    evaluator: &mut Evaluator<'_>,
+    scope: TermScope,
+    v: VarId,
+) -> Result<(), AllocError>
     requires inside { scope.variables < length evaluator.old.scopes }
     requires sound { IsSound evaluator.old }
     ensures { OnOk result ((at : ℕ) → IsEntered scope (node.Var at v) evaluator.old evaluator.new) }
@@ -83,7 +87,7 @@ fn enter_variable(evaluator: &mut Evaluator<'_>, scope: Scope, v: VarId) -> Resu
 /// Finds the value of a node that was entered, or plans what leads to it.
 pub(crate) fn enter_node(
     evaluator: &mut Evaluator<'_>,
-    scope: Scope,
+    scope: TermScope,
     node: &TermNode,
 ) -> Result<(), AllocError>
     requires inside { scope.variables < length evaluator.old.scopes }
@@ -99,32 +103,51 @@ pub(crate) fn enter_node(
             let place = evaluator.lists.add_empty()?;
             evaluator.values.push(Datum::List(place))
         }
-        TermNode::Add(_, a, b) => operate(&mut evaluator.todo, scope, *a, *b, Operator::Add),
-        TermNode::Sub(_, a, b) => operate(&mut evaluator.todo, scope, *a, *b, Operator::Sub),
-        TermNode::Mul(_, a, b) => operate(&mut evaluator.todo, scope, *a, *b, Operator::Mul),
-        TermNode::Div(_, a, b) => operate(&mut evaluator.todo, scope, *a, *b, Operator::Div),
-        TermNode::Rem(_, a, b) => operate(&mut evaluator.todo, scope, *a, *b, Operator::Rem),
-        TermNode::Less(_, a, b) => operate(&mut evaluator.todo, scope, *a, *b, Operator::Less),
-        TermNode::Equal(_, a, b) => operate(&mut evaluator.todo, scope, *a, *b, Operator::Equal),
+        TermNode::Add(_, a, b) => operate(&mut evaluator.todo, scope, *a, *b, NumberOperator::Add),
+        TermNode::Sub(_, a, b) => operate(&mut evaluator.todo, scope, *a, *b, NumberOperator::Sub),
+        TermNode::Mul(_, a, b) => operate(&mut evaluator.todo, scope, *a, *b, NumberOperator::Mul),
+        TermNode::Div(_, a, b) => operate(&mut evaluator.todo, scope, *a, *b, NumberOperator::Div),
+        TermNode::Rem(_, a, b) => operate(&mut evaluator.todo, scope, *a, *b, NumberOperator::Rem),
+        TermNode::Less(_, a, b) => operate(
+            &mut evaluator.todo,
+            scope,
+            *a,
+            *b,
+            NumberOperator::Less,
+        ),
+        TermNode::Equal(_, a, b) => operate(
+            &mut evaluator.todo,
+            scope,
+            *a,
+            *b,
+            NumberOperator::Equal,
+        ),
         TermNode::And(_, a, b) => plan(
             &mut evaluator.todo,
-            &[Act::Term(scope, *a), Act::Both(scope, *b)],
+            &[Pending::Term(scope, *a), Pending::Both(scope, *b)],
         ),
         TermNode::Or(_, a, b) => plan(
             &mut evaluator.todo,
-            &[Act::Term(scope, *a), Act::Either(scope, *b)],
+            &[Pending::Term(scope, *a), Pending::Either(scope, *b)],
         ),
         TermNode::Cons(_, a, b) => {
             plan(
                 &mut evaluator.todo,
-                &[Act::Term(scope, *a), Act::Term(scope, *b), Act::PutBefore],
+                &[
+                    Pending::Term(scope, *a),
+                    Pending::Term(scope, *b),
+                    Pending::PutBefore,
+                ],
             )
         }
-        TermNode::Not(_, a) => plan(&mut evaluator.todo, &[Act::Term(scope, *a), Act::Not]),
+        TermNode::Not(_, a) => plan(
+            &mut evaluator.todo,
+            &[Pending::Term(scope, *a), Pending::Not],
+        ),
         TermNode::If(_, test, a, b) => {
             plan(
                 &mut evaluator.todo,
-                &[Act::Term(scope, *test), Act::Choose(scope, *a, *b)],
+                &[Pending::Term(scope, *test), Pending::Choose(scope, *a, *b)],
             )
         }
         TermNode::Match(_, taken, empty, head, tail, full) => {
@@ -136,7 +159,7 @@ pub(crate) fn enter_node(
             };
             plan(
                 &mut evaluator.todo,
-                &[Act::Term(scope, *taken), Act::Open(scope, cases)],
+                &[Pending::Term(scope, *taken), Pending::Open(scope, cases)],
             )
         }
     }
@@ -144,34 +167,39 @@ pub(crate) fn enter_node(
 
 // Both sides of an operator, and then the operator.
 fn operate(
-    todo: &mut Stack<Act>,
-    scope: Scope,
+    todo: &mut Stack<Pending>,
+    scope: TermScope,
     a: TermId,
     b: TermId,
-    operator: Operator,
+    operator: NumberOperator,
 ) -> Result<(), AllocError>
     ensures { OnOk result (todo.new ≡ act.Term scope a ∷ act.Term scope b ∷ act.Numbers operator ∷ todo.old) }
 {
     plan(
         todo,
         &[
-            Act::Term(scope, a),
-            Act::Term(scope, b),
-            Act::Numbers(operator),
+            Pending::Term(scope, a),
+            Pending::Term(scope, b),
+            Pending::Numbers(operator),
         ],
     )
 }
 
 // The arguments of a call, and then the call.
-fn call(todo: &mut Stack<Act>, scope: Scope, f: FnId, values: &[TermId]) -> Result<(), AllocError>
+fn call(
+    todo: &mut Stack<Pending>,
+    scope: TermScope,
+    f: FnId,
+    values: &[TermId],
+) -> Result<(), AllocError>
     ensures { OnOk result
         (todo.new ≡ argument_acts scope values.now ++ act.Enter scope.calls f (length values.now) ∷ todo.old) }
 {
-    todo.push(Act::Enter(scope.calls, f, values.len()))?;
+    todo.push(Pending::Enter(scope.calls, f, values.len()))?;
     let mut left = values.len();
     while left > 0 {
         left -= 1;
-        todo.push(Act::Term(scope, values[left]))?;
+        todo.push(Pending::Term(scope, values[left]))?;
     }
     Ok(())
 }

@@ -1,16 +1,16 @@
 //! Evaluation of terms, with a stack of its own.
 #![tactic(auto)]
 
-mod act;
 mod acts;
 mod around;
 mod calls;
 mod datum;
+mod evaluating;
 pub mod evaluation;
 mod evaluator;
-mod lists;
+mod list_store;
 mod numbers;
-mod run;
+mod pending;
 mod scopes;
 pub mod small;
 mod values;

@@ -9,7 +9,7 @@ ghost use Rattle.nomos_eval.specs.mirror.Operation.{operation_node};
 ghost use Rattle.nomos_eval.specs.mirror.SmallPart.{ComesTo, IsNumber, equal_parts, less_parts, part_of, part_value};
 
 use crate::around::bound_value;
-use crate::numbers::{Given, Operator, operate};
+use crate::numbers::{NumberOperator, Yield, operate};
 use nomos_ir::find::find_term;
 use nomos_ir::ids::{TermId, VarId};
 use nomos_ir::lists::ProgramLists;
@@ -20,7 +20,7 @@ use nomos_ir::value_node::ValueNode;
 
 /// A part of a test: a number, or something else.
 #[derive(Clone, Copy, PartialEq, Eq, Debug)]
-pub(crate) enum Part {
+pub(crate) enum SmallPart {
     Number(i64),
     Other,
 }
@@ -73,72 +73,77 @@ fn truth_in(value: &Value) -> bool
 }
 
 // A number or a variable, if it is one, among variables of which so many first ones are known to ascend.
-fn small_part(lists: &ProgramLists, t: TermId, env: &[(VarId, Value)], known: usize) -> Option<Part>
+fn small_part(
+    lists: &ProgramLists,
+    t: TermId,
+    env: &[(VarId, Value)],
+    known: usize,
+) -> Option<SmallPart>
     requires { Rises env.now known }
     ensures { MatchOption result (IsSmallPart (slice_get lists.now.terms t.0) → ⊥) (λ part.
         IsSmallPart (slice_get lists.now.terms t.0)
         × (part ≡ part_of (part_value env.now (slice_get lists.now.terms t.0)))) }
 {
     match find_term(lists, t)? {
-        TermNode::Number(_, n) => Some(Part::Number(i64::from(*n))),
+        TermNode::Number(_, n) => Some(SmallPart::Number(i64::from(*n))),
         TermNode::Var(_, v) => Some(part_bound(env, known, *v)),
         _ => None,
     }
 }
 
 // A variable as a part; one without a value is 0.
-fn part_bound(env: &[(VarId, Value)], known: usize, v: VarId) -> Part
+fn part_bound(env: &[(VarId, Value)], known: usize, v: VarId) -> SmallPart
     requires { Rises env.now known }
     ensures { result ≡ part_of (unwrap_or (bound_to v.0 env.now) nought) }
 {
     match bound_value(env, known, v) {
         Some(value) => part_from(value),
-        None => Part::Number(0),
+        None => SmallPart::Number(0),
     }
 }
 
 // A value as a part.
-fn part_from(value: &Value) -> Part
+fn part_from(value: &Value) -> SmallPart
     ensures { result ≡ part_of value.now }
 {
     match value.node() {
-        ValueNode::Int(z) => Part::Number(*z),
-        _ => Part::Other,
+        ValueNode::Int(z) => SmallPart::Number(*z),
+        _ => SmallPart::Other,
     }
 }
 
 // Whether one part is less than another; between other parts than numbers this is not true.
-fn is_less(left: Part, right: Part) -> bool
+fn is_less(left: SmallPart, right: SmallPart) -> bool
     ensures { result ≡ less_parts left right }
 {
     match (left, right) {
-        (Part::Number(x), Part::Number(y)) => x < y,
+        (SmallPart::Number(x), SmallPart::Number(y)) => x < y,
         _ => false,
     }
 }
 
 // Whether two parts are one number.
-fn is_equal(left: Part, right: Part) -> bool
+fn is_equal(left: SmallPart, right: SmallPart) -> bool
     ensures { result ≡ equal_parts left right }
 {
     match (left, right) {
-        (Part::Number(x), Part::Number(y)) => x == y,
+        (SmallPart::Number(x), SmallPart::Number(y)) => x == y,
         _ => false,
     }
 }
 
 // The operator of a node and the terms on its sides, where it is one that takes numbers.
-fn sides_of(node: &TermNode) -> Option<(Operator, TermId, TermId)>
+fn sides_of(node: &TermNode) -> Option<(NumberOperator, TermId, TermId)>
     ensures { IfSome result (λ found. (at : ℕ) × (node.now ≡ operation_node found.0 at found.1 found.2)) }
 {
     match node {
-        TermNode::Add(_, a, b) => Some((Operator::Add, *a, *b)),
-        TermNode::Sub(_, a, b) => Some((Operator::Sub, *a, *b)),
-        TermNode::Mul(_, a, b) => Some((Operator::Mul, *a, *b)),
-        TermNode::Div(_, a, b) => Some((Operator::Div, *a, *b)),
-        TermNode::Rem(_, a, b) => Some((Operator::Rem, *a, *b)),
-        TermNode::Less(_, a, b) => Some((Operator::Less, *a, *b)),
-        TermNode::Equal(_, a, b) => Some((Operator::Equal, *a, *b)),
+        TermNode::Add(_, a, b) => Some((NumberOperator::Add, *a, *b)),
+        TermNode::Sub(_, a, b) => Some((NumberOperator::Sub, *a, *b)),
+        TermNode::Mul(_, a, b) => Some((NumberOperator::Mul, *a, *b)),
+        TermNode::Div(_, a, b) => Some((NumberOperator::Div, *a, *b)),
+        TermNode::Rem(_, a, b) => Some((NumberOperator::Rem, *a, *b)),
+        TermNode::Less(_, a, b) => Some((NumberOperator::Less, *a, *b)),
+        TermNode::Equal(_, a, b) => Some((NumberOperator::Equal, *a, *b)),
         _ => None,
     }
 }
@@ -154,8 +159,8 @@ fn small_number(
     ensures { IfSome result (λ z. IsNumber env.now (slice_get lists.now.terms t.0) z) }
 {
     match small_part(lists, t, env, known)? {
-        Part::Number(z) => Some(z),
-        Part::Other => None,
+        SmallPart::Number(z) => Some(z),
+        SmallPart::Other => None,
     }
 }
 
@@ -165,7 +170,7 @@ pub(crate) fn small_operation(
     node: &TermNode,
     env: &[(VarId, Value)],
     known: usize,
-) -> Option<Given>
+) -> Option<Yield>
     requires { Rises env.now known }
     ensures { IfSome result (λ found. ComesTo lists.now env.now node.now found) }
 {

@@ -7,7 +7,7 @@ ghost use Rattle.nomos_eval.specs.mirror.EvalTable.{datum_value, reach};
 ghost use Rattle.nomos_eval.specs.mirror.Parted.{IsParted};
 
 use crate::datum::Datum;
-use crate::lists::{Cell, Lists};
+use crate::list_store::{Lists, StoredList};
 use nomos_ir::value::Values;
 use nomos_ir::value_node::ValueNode;
 use std::alloc::{AllocError, Global};
@@ -33,9 +33,9 @@ pub(crate) fn parts(lists: &mut Lists, place: usize) -> Result<Option<(Datum, us
     ensures { IfOk result (λ found. IsParted lists.old place lists.new found) }
 {
     let (head, rest) = match lists.look(place) {
-        Cell::Empty => return Ok(None),
-        Cell::More(head, tail, _) => return Ok(Some((*head, *tail))),
-        Cell::Given(items) => match items.parts() {
+        StoredList::Empty => return Ok(None),
+        StoredList::More(head, tail, _) => return Ok(Some((*head, *tail))),
+        StoredList::Given(items) => match items.parts() {
             None => return Ok(None),
             Some((head, rest)) => (head.copy()?, rest.copy()?),
         },
@@ -59,15 +59,15 @@ pub(crate) fn unload(alloc: Global, lists: &Lists, of: Datum) -> Result<ValueNod
             let mut at = place;
             loop {
                 match lists.look(at) {
-                    Cell::Empty => {
+                    StoredList::Empty => {
                         let node = list_node(alloc, heads, Values::empty())?;
                         return Ok(node);
                     }
-                    Cell::Given(rest) => {
+                    StoredList::Given(rest) => {
                         let node = list_node(alloc, heads, rest.copy()?)?;
                         return Ok(node);
                     }
-                    Cell::More(head, tail, _) => {
+                    StoredList::More(head, tail, _) => {
                         heads.push(unload(alloc, lists, *head)?)?;
                         at = *tail;
                     }

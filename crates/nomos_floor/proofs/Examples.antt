@@ -5,7 +5,7 @@ use Rattle.nomos_floor.specs.OwnEntries.{mine, kept_of, longer, without_number, 
 use Rattle.nomos_floor.specs.FloorView.{IsLive, opening_view, ended_view, live_numbers}
 use Rattle.nomos_floor.specs.FloorSteps.{adding, split_off, newcomer, joined, learned}
 use Rattle.nomos_floor.specs.FloorInvariant.{Slot, Numbers}
-use Rattle.nomos_floor.specs.declared.view.View.{View}
+use Rattle.nomos_floor.specs.declared.view.PassView.{PassView}
 use Rattle.nomos_floor.specs.declared.view.Stage.TheVariants.{Serving}
 use Rattle.nomos_floor.proofs.NumberParts.{live_apart}
 
@@ -39,13 +39,13 @@ three_numbers : SameNumbers (0 ∷ 1 ∷ 2 ∷ []) (numbers_below 3)
 three_numbers weight = omega arith
 
 -- The opening pass of a floor over the number 7, once it split off a pass, which added 30; and once it took it in again
-abbrev opened : View ℕ ℕ
+abbrev opened : PassView ℕ ℕ
 opened = split_off (opening_view 7)
 
-abbrev other : View ℕ ℕ
+abbrev other : PassView ℕ ℕ
 other = adding 30 (newcomer (opening_view 7))
 
-abbrev after : View ℕ ℕ
+abbrev after : PassView ℕ ℕ
 after = learned (joined opened other)
 
 numbers_out : opened.out ≡ 1 ∷ []
@@ -70,10 +70,12 @@ kept_after : after.ended ≡ (1, 30 ∷ []) ∷ []
 kept_after = refl
 
 -- two live passes of one number are no floor's
-not_twice : (v : View ℕ ℕ) (next : ℕ) (out gone : List ℕ) → Numbers log next out gone (v ∷ v ∷ []) → IsLive v.stage → ⊥
+not_twice : (v : PassView ℕ ℕ) (next : ℕ) (out gone : List ℕ) → Numbers log next out gone (v ∷ v ∷ []) → IsLive v.stage
+    → ⊥
 not_twice v next out gone numbers live = live_apart numbers 0 1 v v refl refl live live (λ e. omega arith) refl
 
 -- nor is a slot that is there while a pass has its turn
-not_both : (v : View ℕ ℕ) (t : ℕ) (there : Option ℕ) → v.stage ≡ Serving t → Slot 0 log (home.some there ∷ []) (v ∷ [])
+not_both : (v : PassView ℕ ℕ) (t : ℕ) (there : Option ℕ) → v.stage ≡ Serving t
+    → Slot 0 log (home.some there ∷ []) (v ∷ [])
     → ⊥
 not_both v t there turn slot = let k = slot.turn 0 t v refl turn in home.some-ne-none there (cc (k.0))

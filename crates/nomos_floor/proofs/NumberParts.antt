@@ -9,7 +9,7 @@ use Rattle.nomos_floor.specs.OwnEntries.{mine, without_number, numbers_below}
 use Rattle.nomos_floor.specs.FloorView.{tickets_of, IsLive, if_live, ended_view}
 use Rattle.nomos_floor.specs.FloorSteps.{adding, split_off, newcomer, joined}
 use Rattle.nomos_floor.specs.FloorInvariant.{Sits, Numbers, FitsHistory}
-use Rattle.nomos_floor.specs.declared.view.View.{View}
+use Rattle.nomos_floor.specs.declared.view.PassView.{PassView}
 use Rattle.nomos_floor.specs.declared.view.Stage.{Stage}
 use Rattle.nomos_floor.specs.declared.view.Stage.TheVariants.{Idle, Waiting, Serving, Ended}
 use Rattle.nomos_floor.proofs.HistoryLaws.{one_at, one_at_same, one_at_other, own_lists_push, mine_push_own, mine_push_other, prefix_push}
@@ -21,7 +21,7 @@ live_weight (Waiting t) x live = refl
 live_weight (Serving t) x live = refl
 live_weight Ended x live = absurd live
 
-module _ {W E : Type 0} {log : List (ℕ × E)} {next : ℕ} {out gone : List ℕ} {views : List (View W E)} where
+module _ {W E : Type 0} {log : List (ℕ × E)} {next : ℕ} {out gone : List ℕ} {views : List (PassView W E)} where
   -- how often a number stands among those of live passes, those out, and those of ended passes
   pub all_counted : Numbers log next out gone views → (weight : ℕ → ℕ)
       → (sum_by (live_at weight) views ≡ weight 0 + sum_by weight out)
@@ -33,7 +33,7 @@ module _ {W E : Type 0} {log : List (ℕ × E)} {next : ℕ} {out gone : List �
       )
 
   -- the number of a live pass is below the next one, and no ended pass has it
-  pub live_number : Numbers log next out gone views → (id : ℕ) (v : View W E) → Sits views id v → IsLive v.stage
+  pub live_number : Numbers log next out gone views → (id : ℕ) (v : PassView W E) → Sits views id v → IsLive v.stage
       → (v.number < next) × (sum_by (one_at v.number) gone ≡ 0)
   live_number o id v me live =
       let n : ℕ = v.number in
@@ -45,7 +45,7 @@ module _ {W E : Type 0} {log : List (ℕ × E)} {next : ℕ} {out gone : List �
       (λ no. let below : n < next = omega arith in (below, omega (arith, c.0, c.1, here, one, below_once n next below)))
 
   -- two live passes have different numbers
-  pub live_apart : Numbers log next out gone views → (id j : ℕ) (v u : View W E) → Sits views id v → Sits views j u
+  pub live_apart : Numbers log next out gone views → (id j : ℕ) (v u : PassView W E) → Sits views id v → Sits views j u
       → IsLive v.stage → IsLive u.stage → j ≢ id → v.number ≢ u.number
   live_apart o id j v u me they live live' apart same =
       let n : ℕ = v.number in
@@ -56,7 +56,7 @@ module _ {W E : Type 0} {log : List (ℕ × E)} {next : ℕ} {out gone : List �
       omega (arith, c.0, c.1, both, one, other, below_once n next (live_number o id v me live).0)
 
   -- a seat keeps its number and what it knows of the others
-  pub keeps_numbers : Numbers log next out gone views → (id : ℕ) (v w : View W E) → Sits views id v → IsLive v.stage
+  pub keeps_numbers : Numbers log next out gone views → (id : ℕ) (v w : PassView W E) → Sits views id v → IsLive v.stage
       → IsLive w.stage
       → w.number ≡ v.number → w.next ≡ v.next → w.out ≡ v.out → w.ended ≡ v.ended
       → Numbers log next out gone (set views id w)
@@ -75,18 +75,18 @@ module _ {W E : Type 0} {log : List (ℕ × E)} {next : ℕ} {out gone : List �
     few = o.few;
     opening = λ j u sits they first. ⊎_elim
         (λ (q : (j ≡ id) × (w ≡ u)). let k = o.opening id v me live
-        (sym number ∙ (ap (λ (x : View W E). x.number) q.1 ∙ first)) in (
-          ap (λ (x : View W E). x.next) (sym q.1) ∙ (next_same ∙ k.0),
-          ap (λ (x : View W E). x.out) (sym q.1)
+        (sym number ∙ (ap (λ (x : PassView W E). x.number) q.1 ∙ first)) in (
+          ap (λ (x : PassView W E). x.next) (sym q.1) ∙ (next_same ∙ k.0),
+          ap (λ (x : PassView W E). x.out) (sym q.1)
               ∙ (out_same ∙ k.1),
-          ap (λ (x : View W E). x.ended) (sym q.1) ∙ (ended_same ∙ k.2),
+          ap (λ (x : PassView W E). x.ended) (sym q.1) ∙ (ended_same ∙ k.2),
         ))
         (λ (q : (j ≢ id) × Sits views j u). o.opening j u q.1 they first) (at_set views id j w u sits);
     unused = o.unused;
   }
 
   -- the history has an entry more, of a live pass
-  pub grows_numbers : Numbers log next out gone views → (id : ℕ) (v : View W E) (e : E) → Sits views id v
+  pub grows_numbers : Numbers log next out gone views → (id : ℕ) (v : PassView W E) (e : E) → Sits views id v
       → IsLive v.stage → Numbers (log ++ (v.number, e) ∷ []) next out gone views
   grows_numbers o id v e me live =
       let mine_is = live_number o id v me live in record {
@@ -100,12 +100,12 @@ module _ {W E : Type 0} {log : List (ℕ × E)} {next : ℕ} {out gone : List �
       }
 
   -- the opening pass splits a pass off
-  pub splits_numbers : Numbers log next out gone views → (id : ℕ) (v : View W E) → Sits views id v → IsLive v.stage
+  pub splits_numbers : Numbers log next out gone views → (id : ℕ) (v : PassView W E) → Sits views id v → IsLive v.stage
       → v.number ≡ 0 → v.next + 1 < 2 ^ 32
       → Numbers log (next + 1) (out ++ next ∷ []) gone (set views id (split_off v) ++ newcomer v ∷ [])
   splits_numbers o id v me live first room =
-      let w : View W E = split_off v in
-      let fresh : View W E = newcomer v in
+      let w : PassView W E = split_off v in
+      let fresh : PassView W E = newcomer v in
       let k = o.opening id v me live first in
       let above : 0 < next = omega (arith, (live_number o id v me live).0) in record {
         live = λ weight. omega (
@@ -135,27 +135,27 @@ module _ {W E : Type 0} {log : List (ℕ × E)} {next : ℕ} {out gone : List �
         opening = λ j u sits they zero_number. ⊎_elim
             (λ (old : Sits (set views id w) j u). ⊎_elim
             (λ (q : (j ≡ id) × (w ≡ u)). (
-              ap (λ (x : View W E). x.next) (sym q.1) ∙ ap (λ (n : ℕ). n + 1) k.0,
-              ap (λ (x : View W E). x.out) (sym q.1)
+              ap (λ (x : PassView W E). x.next) (sym q.1) ∙ ap (λ (n : ℕ). n + 1) k.0,
+              ap (λ (x : PassView W E). x.out) (sym q.1)
                   ∙ (ap (λ (n : ℕ). v.out ++ n ∷ []) k.0 ∙ ap (λ (l : List ℕ). l ++ next ∷ []) k.1),
-              ap (λ (x : View W E). x.ended) (sym q.1) ∙ k.2,
+              ap (λ (x : PassView W E). x.ended) (sym q.1) ∙ k.2,
             ))
             (λ (q : (j ≢ id) × Sits views j u).
             absurd (live_apart o id j v u me q.1 live they q.0 (first ∙ sym zero_number)))
             (at_set views id j w u old))
-            (λ (new : fresh ≡ u). absurd (omega (arith, ap (λ (x : View W E). x.number) new, k.0)))
+            (λ (new : fresh ≡ u). absurd (omega (arith, ap (λ (x : PassView W E). x.number) new, k.0)))
             (at_snoc (set views id w) fresh u j sits);
         unused = λ n past. o.unused n (omega arith);
       }
 
   -- the opening pass takes in another
-  pub joins_numbers : Numbers log next out gone views → (id other : ℕ) (v w : View W E) → Sits views id v
+  pub joins_numbers : Numbers log next out gone views → (id other : ℕ) (v w : PassView W E) → Sits views id v
       → Sits views other w → other ≢ id → IsLive v.stage → IsLive w.stage → v.number ≡ 0 → w.own ≡ mine w.number log
       → Numbers log next (without_number w.number out) (gone ++ w.number ∷ [])
       (set (set views id (joined v w)) other ended_view)
   joins_numbers o id other v w me they apart live live' first own =
-      let both : View W E = joined v w in
-      let spent : View W E = ended_view in
+      let both : PassView W E = joined v w in
+      let spent : PassView W E = ended_view in
       let n : ℕ = w.number in
       let k = o.opening id v me live first in
       let there : Sits (set views id both) other w = set_else views id other both apart ∙ they in
@@ -188,12 +188,12 @@ module _ {W E : Type 0} {log : List (ℕ × E)} {next : ℕ} {out gone : List �
         );
         few = o.few;
         opening = λ j u sits alive zero_number. ⊎_elim
-            (λ (q : (j ≡ other) × (spent ≡ u)). absurd (subst (λ (x : View W E). IsLive x.stage) (sym q.1) alive))
+            (λ (q : (j ≡ other) × (spent ≡ u)). absurd (subst (λ (x : PassView W E). IsLive x.stage) (sym q.1) alive))
             (λ (q : (j ≢ other) × Sits (set views id both) j u). ⊎_elim
             (λ (p : (j ≡ id) × (both ≡ u)). (
-              ap (λ (x : View W E). x.next) (sym p.1) ∙ k.0,
-              ap (λ (x : View W E). x.out) (sym p.1) ∙ ap (without_number n) k.1,
-              ap (λ (x : View W E). x.ended) (sym p.1)
+              ap (λ (x : PassView W E). x.next) (sym p.1) ∙ k.0,
+              ap (λ (x : PassView W E). x.out) (sym p.1) ∙ ap (without_number n) k.1,
+              ap (λ (x : PassView W E). x.ended) (sym p.1)
                   ∙ (ap (λ (l : List E). v.ended ++ (n, l) ∷ []) own
                   ∙ (ap (λ (l : List (ℕ × List E)). l ++ (n, mine n log) ∷ []) k.2
                   ∙ sym (map-append (λ (m : ℕ). (m, mine m log)) gone (n ∷ [])))),
@@ -207,13 +207,13 @@ module _ {W E : Type 0} {log : List (ℕ × E)} {next : ℕ} {out gone : List �
       }
 
   -- an entry more: of the pass that has its turn it is its own, and to the others it changes nothing
-  pub grows_fits : Numbers log next out gone views → (opened : W) (id : ℕ) (v : View W E) (e : E) → Sits views id v
+  pub grows_fits : Numbers log next out gone views → (opened : W) (id : ℕ) (v : PassView W E) (e : E) → Sits views id v
       → IsLive v.stage → v.seen ≡ log
-      → ((j : ℕ) (u : View W E) → Sits views j u → IsLive u.stage → FitsHistory opened log u)
-      → (j : ℕ) (u : View W E) → Sits (set views id (adding e v)) j u → IsLive u.stage
+      → ((j : ℕ) (u : PassView W E) → Sits views j u → IsLive u.stage → FitsHistory opened log u)
+      → (j : ℕ) (u : PassView W E) → Sits (set views id (adding e v)) j u → IsLive u.stage
       → FitsHistory opened (log ++ (v.number, e) ∷ []) u
   grows_fits o opened id v e me live whole fit j u sits they =
-      let w : View W E = adding e v in
+      let w : PassView W E = adding e v in
       let more : List (ℕ × E) = log ++ (v.number, e) ∷ [] in
       let f = fit id v me live in ⊎_elim
       (λ (q : (j ≡ id) × (w ≡ u)). subst (FitsHistory opened more) q.1 (record {
@@ -230,10 +230,11 @@ module _ {W E : Type 0} {log : List (ℕ × E)} {next : ℕ} {out gone : List �
       }) (at_set views id j w u sits)
 
 -- the view of one seat changes, and fits
-pub keeps_fits : {W E : Type 0} (opened : W) (log : List (ℕ × E)) (views : List (View W E)) (id : ℕ) (w : View W E)
+pub keeps_fits : {W E : Type 0} (opened : W) (log : List (ℕ × E)) (views : List (PassView W E)) (id : ℕ)
+    (w : PassView W E)
     → FitsHistory opened log w
-    → ((j : ℕ) (u : View W E) → Sits views j u → IsLive u.stage → FitsHistory opened log u)
-    → (j : ℕ) (u : View W E) → Sits (set views id w) j u → IsLive u.stage → FitsHistory opened log u
+    → ((j : ℕ) (u : PassView W E) → Sits views j u → IsLive u.stage → FitsHistory opened log u)
+    → (j : ℕ) (u : PassView W E) → Sits (set views id w) j u → IsLive u.stage → FitsHistory opened log u
 keeps_fits {W} {E} opened log views id w fits fit j u sits they =
     ⊎_elim (λ (q : (j ≡ id) × (w ≡ u)). subst (FitsHistory opened log) q.1 fits)
     (λ (q : (j ≢ id) × Sits views j u). fit j u q.1 they) (at_set views id j w u sits)
@@ -249,7 +250,7 @@ ones zero = refl
 ones (suc n) = omega (arith, sum_by-cons (λ _. 1) n (numbers_below n), ones n)
 
 -- fewer than 2 ^ 32 tickets are out, since there are no more passes
-pub few_tickets : {W E : Type 0} {log : List (ℕ × E)} {next : ℕ} {out gone : List ℕ} {views : List (View W E)}
+pub few_tickets : {W E : Type 0} {log : List (ℕ × E)} {next : ℕ} {out gone : List ℕ} {views : List (PassView W E)}
     → Numbers log next out gone views → sum_by (λ v. tickets_of v.stage) views < 2 ^ 32
 few_tickets {W} {E} {log} {next} {out} {gone} {views} o =
     let c = all_counted o (λ _. 1) in
@@ -259,5 +260,6 @@ few_tickets {W} {E} {log} {next} {out} {gone} {views} o =
       c.1,
       o.few,
       ones next,
-      sum_by-le-sum_by (λ (v : View W E). tickets_of v.stage) (live_at (λ _. 1)) views (λ v. ticket_is_live v.stage),
+      sum_by-le-sum_by (λ (v : PassView W E). tickets_of v.stage) (live_at (λ _. 1)) views
+          (λ v. ticket_is_live v.stage),
     )

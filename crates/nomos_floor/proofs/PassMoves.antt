@@ -9,7 +9,7 @@ use Rattle.nomos_floor.specs.OwnEntries.{without_number}
 use Rattle.nomos_floor.specs.FloorView.{ticket_of, tickets_of, IsLive, ended_view}
 use Rattle.nomos_floor.specs.FloorInvariant.{Sits, Tickets, Slot, FitsHistory}
 use Rattle.nomos_floor.specs.FloorSteps.{Holder, split_off, newcomer, joined, learned, learn}
-use Rattle.nomos_floor.specs.declared.view.View.{View}
+use Rattle.nomos_floor.specs.declared.view.PassView.{PassView}
 use Rattle.nomos_floor.specs.declared.view.Stage.TheVariants.{Idle, Serving}
 use Rattle.nomos_floor.proofs.HistoryLaws.{longer_begins}
 use Rattle.nomos_floor.proofs.TicketParts.{keeps_ticket, keeps_slot}
@@ -18,13 +18,14 @@ use Rattle.nomos_floor.proofs.TurnMoves.{Holds, live_idle}
 
 module _ {W E : Type 0} where
   -- a seat is added, which has no ticket
-  adds_seat : {served drawn : ℕ} {words : List ℕ} {views : List (View W E)} → Tickets served drawn words views
-      → (u : View W E) → u.stage ≡ Idle → Tickets served drawn words (views ++ u ∷ [])
+  adds_seat : {served drawn : ℕ} {words : List ℕ} {views : List (PassView W E)} → Tickets served drawn words views
+      → (u : PassView W E) → u.stage ≡ Idle → Tickets served drawn words (views ++ u ∷ [])
   adds_seat {served} {drawn} {words} {views} o u idle =
-      let had : (j t : ℕ) (x : View W E) → Sits (views ++ u ∷ []) j x → ticket_of x.stage ≡ Some t → Sits views j x =
+      let had : (j t : ℕ) (x : PassView W E) → Sits (views ++ u ∷ []) j x → ticket_of x.stage ≡ Some t
+      → Sits views j x =
       λ j t x sits has. ⊎_elim (λ (old : Sits views j x). old)
       (λ (new : u ≡ x). let no : None ≡ Some t = sym (ap ticket_of idle)
-      ∙ (ap (λ (y : View W E). ticket_of y.stage) new ∙ has) in cc (no)) (at_snoc views u x j sits) in
+      ∙ (ap (λ (y : PassView W E). ticket_of y.stage) new ∙ has) in cc (no)) (at_snoc views u x j sits) in
       record {
         ticket = o.ticket;
         serving = o.serving;
@@ -32,28 +33,29 @@ module _ {W E : Type 0} where
         distinct =
             λ j k t x y one other here there.
             o.distinct j k t x y (had j t x one here) (had k t y other there) here there;
-        run = omega (arith, o.run, sum_by_push (λ (y : View W E). tickets_of y.stage) views u, ap tickets_of idle);
+        run = omega (arith, o.run, sum_by_push (λ (y : PassView W E). tickets_of y.stage) views u, ap tickets_of idle);
       }
 
-  adds_slot : {served : ℕ} {log : List (ℕ × E)} {homes : List (home.Option (Option W))} {views : List (View W E)}
-      → Slot served log homes views → (u : View W E) → u.stage ≡ Idle → Slot served log homes (views ++ u ∷ [])
+  adds_slot : {served : ℕ} {log : List (ℕ × E)} {homes : List (home.Option (Option W))} {views : List (PassView W E)}
+      → Slot served log homes views → (u : PassView W E) → u.stage ≡ Idle → Slot served log homes (views ++ u ∷ [])
   adds_slot {served} {log} {homes} {views} s u idle = record {
     turn = λ j t x sits serving. ⊎_elim (λ (old : Sits views j x). s.turn j t x old serving)
         (λ (new : u ≡ x). let no : Idle ≡ Serving t = sym idle
-        ∙ (ap (λ (y : View W E). y.stage) new ∙ serving) in cc (no)) (at_snoc views u x j sits);
+        ∙ (ap (λ (y : PassView W E). y.stage) new ∙ serving) in cc (no)) (at_snoc views u x j sits);
     empty = λ none. let e = s.empty none in (e.0, e.1, at_longer views (u ∷ []) e.0 e.1 e.2, e.3);
   }
 
 module _ {W S E : Type 0} (start : W → S) (history : W → List (ℕ × E)) (opened : W) where
-  pub splits : (id : ℕ) (v : View W E) → v.stage ≡ Idle → v.number ≡ 0 → v.next + 1 < 2 ^ 32
+  pub splits : (id : ℕ) (v : PassView W E) → v.stage ≡ Idle → v.number ≡ 0 → v.next + 1 < 2 ^ 32
       → Splits (Holds start history opened) id v (split_off v) (newcomer v)
   splits id v idle first room s o me =
-      let w : View W E = split_off v in
-      let u : View W E = newcomer v in
+      let w : PassView W E = split_off v in
+      let u : PassView W E = newcomer v in
       let live = live_idle v idle in
       let f = o.fits id v me live in
       let k = o.numbers.opening id v me live first in
-      let changed : (j : ℕ) (x : View W E) → Sits (set s.views id w) j x → IsLive x.stage → FitsHistory opened o.log x =
+      let changed : (j : ℕ) (x : PassView W E) → Sits (set s.views id w) j x → IsLive x.stage
+      → FitsHistory opened o.log x =
       keeps_fits opened o.log s.views id w (record { floor = f.floor; seen = f.seen; told = f.told; own = f.own })
       o.fits in
       record {
@@ -78,19 +80,19 @@ module _ {W S E : Type 0} (start : W → S) (history : W → List (ℕ × E)) (o
         numbers = splits_numbers o.numbers id v me live first room;
       }
 
-  pub joins : (id other : ℕ) (v w : View W E) → v.stage ≡ Idle → w.stage ≡ Idle → v.number ≡ 0
+  pub joins : (id other : ℕ) (v w : PassView W E) → v.stage ≡ Idle → w.stage ≡ Idle → v.number ≡ 0
       → Joins (Holds start history opened) id v other w (joined v w) ended_view
   joins id other v w idle idle' first s o me apart there =
-      let both : View W E = joined v w in
-      let spent : View W E = ended_view in
-      let views : List (View W E) = set s.views id both in
+      let both : PassView W E = joined v w in
+      let spent : PassView W E = ended_view in
+      let views : List (PassView W E) = set s.views id both in
       let they : Sits s.views other w = sym (set_else s.views id other both apart) ∙ there in
       let live = live_idle v idle in
       let live' = live_idle w idle' in
       let f = o.fits id v me live in
       let g = o.fits other w they live' in
       let no_ticket : ticket_of spent.stage ≡ ticket_of w.stage = sym (ap ticket_of idle') in
-      let changed : (j : ℕ) (x : View W E) → Sits views j x → IsLive x.stage → FitsHistory opened o.log x =
+      let changed : (j : ℕ) (x : PassView W E) → Sits views j x → IsLive x.stage → FitsHistory opened o.log x =
       keeps_fits opened o.log s.views id both (record { floor = f.floor; seen = f.seen; told = g.seen; own = f.own })
       o.fits in
       record {
@@ -110,7 +112,7 @@ module _ {W S E : Type 0} (start : W → S) (history : W → List (ℕ × E)) (o
         one_history = o.one_history;
         fits =
             λ j x sits alive. ⊎_elim (λ (q : (j ≡ other) × (spent ≡ x)).
-            absurd (subst (λ (y : View W E). IsLive y.stage) (sym q.1) alive))
+            absurd (subst (λ (y : PassView W E). IsLive y.stage) (sym q.1) alive))
             (λ (q : (j ≢ other) × Sits views j x). changed j x q.1 alive) (at_set views other j spent x sits);
         numbers = joins_numbers o.numbers id other v w me they apart live live' first g.own;
       }
@@ -118,8 +120,8 @@ module _ {W S E : Type 0} (start : W → S) (history : W → List (ℕ × E)) (o
   pub learns : (slots id : ℕ) (m : Holder W E) → m.0.stage ≡ Idle
       → Allows (Holds start history opened) slots id m 0 (λ n. n) (learn (step slots 0 0 0 home.none) m)
   learns slots id m idle s o long me small =
-      let v : View W E = m.0 in
-      let w : View W E = learned v in
+      let v : PassView W E = m.0 in
+      let w : PassView W E = learned v in
       let live = live_idle v idle in
       let f = o.fits id v me live in
       let b = longer_begins v.seen v.told o.log f.seen f.told in
@@ -150,7 +152,7 @@ module _ {W S E : Type 0} (start : W → S) (history : W → List (ℕ × E)) (o
       )
 
   -- the same of a seat that is known by a view and what it holds
-  pub learns_at : (slots id : ℕ) (m : Holder W E) (v : View W E) (held : List (ℕ × Option W)) → m ≡ (v, held)
+  pub learns_at : (slots id : ℕ) (m : Holder W E) (v : PassView W E) (held : List (ℕ × Option W)) → m ≡ (v, held)
       → v.stage ≡ Idle → Allows (Holds start history opened) slots id m 0 (λ n. n)
       (learn (step slots 0 0 0 home.none) m)
   learns_at slots id m v held is idle = learns slots id m (ap (λ (k : Holder W E). k.0.stage) is ∙ idle)

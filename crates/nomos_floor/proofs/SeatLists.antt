@@ -5,7 +5,7 @@ use mathlib.Core.Option.{some, some-injective, some-ne-none}
 use lib.ListN.{get_elem?}
 use Rattle.nomos_floor.specs.OwnEntries.{without_number, numbers_below}
 use Rattle.nomos_floor.specs.FloorView.{if_live, live_numbers}
-use Rattle.nomos_floor.specs.declared.view.View.{View}
+use Rattle.nomos_floor.specs.declared.view.PassView.{PassView}
 use Rattle.nomos_floor.specs.declared.view.Stage.{Stage}
 use Rattle.nomos_floor.specs.declared.view.Stage.TheVariants.{Idle, Waiting, Serving, Ended}
 use Rattle.nomos_floor.proofs.HistoryLaws.{one_at, one_at_other, by_equal}
@@ -84,10 +84,10 @@ live_step weight Ended n total ns e = omega arith
 
 module _ {W E : Type 0} where
   -- the weight of a live view's number
-  abbrev pub live_at : (ℕ → ℕ) → View W E → ℕ
+  abbrev pub live_at : (ℕ → ℕ) → PassView W E → ℕ
   live_at weight v = if_live v.stage (weight v.number) 0
 
-  pub sum_by-live_numbers : (weight : ℕ → ℕ) (views : List (View W E))
+  pub sum_by-live_numbers : (weight : ℕ → ℕ) (views : List (PassView W E))
       → sum_by weight (live_numbers views) ≡ sum_by (live_at weight) views
   sum_by-live_numbers weight [] = refl
   sum_by-live_numbers weight (v ∷ views) =

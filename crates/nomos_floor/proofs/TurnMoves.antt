@@ -14,7 +14,7 @@ use Rattle.nomos_floor.specs.FloorView.{ticket_of, IsLive}
 use Rattle.nomos_floor.specs.FloorInvariant.{Sits, Slot, Invariant}
 use Rattle.nomos_floor.specs.FloorSteps.{Holder, draw, look, count, serve, at_stage, at_turn, adding}
 use Rattle.nomos_floor.specs.mirror.TurnSeats.{HasCounted}
-use Rattle.nomos_floor.specs.declared.view.View.{View}
+use Rattle.nomos_floor.specs.declared.view.PassView.{PassView}
 use Rattle.nomos_floor.specs.declared.view.Stage.TheVariants.{Idle, Waiting, Serving}
 use Rattle.nomos_floor.proofs.HistoryLaws.{mine_push_own}
 use Rattle.nomos_floor.proofs.TicketParts.{keeps_ticket, draws_ticket, serves_ticket, keeps_slot, takes_slot, counts_slot, serves_slot}
@@ -44,24 +44,24 @@ pub one_held : {W : Type 0} (a b : W) → (let held : List (ℕ × Option W) = (
 one_held {W} a b same =
     let pair : Some a ≡ Some b = ap (λ (l : List (ℕ × Option W)). (get_or l 0 (0, Some a)).1) same in cc (pair)
 
-pub live_idle : {W E : Type 0} (v : View W E) → v.stage ≡ Idle → IsLive v.stage
+pub live_idle : {W E : Type 0} (v : PassView W E) → v.stage ≡ Idle → IsLive v.stage
 live_idle v idle = subst IsLive (sym idle) tt
 
-pub live_waiting : {W E : Type 0} (v : View W E) (t : ℕ) → v.stage ≡ Waiting t → IsLive v.stage
+pub live_waiting : {W E : Type 0} (v : PassView W E) (t : ℕ) → v.stage ≡ Waiting t → IsLive v.stage
 live_waiting v t waiting = subst IsLive (sym waiting) tt
 
-pub live_serving : {W E : Type 0} (v : View W E) (t : ℕ) → v.stage ≡ Serving t → IsLive v.stage
+pub live_serving : {W E : Type 0} (v : PassView W E) (t : ℕ) → v.stage ≡ Serving t → IsLive v.stage
 live_serving v t serving = subst IsLive (sym serving) tt
 
 module _ {W S E : Type 0} (start : W → S) (history : W → List (ℕ × E)) (opened : W) where
-  abbrev pub Holds : State (Option W) (View W E) → Type 0
+  abbrev pub Holds : State (Option W) (PassView W E) → Type 0
   Holds = Invariant start history opened
 
   pub draws : (slots id : ℕ) (m : Holder W E) → m.0.stage ≡ Idle
       → Allows Holds slots id m 0 (λ n. (n + 1) % 2 ^ 64) (draw (step slots 0 1 0 home.none) m)
   draws slots id m idle s o long me small =
-      let v : View W E = m.0 in
-      let w : View W E = at_stage (Waiting o.drawn) v in
+      let v : PassView W E = m.0 in
+      let w : PassView W E = at_stage (Waiting o.drawn) v in
       let x : ℕ = (slice_index s.words 0 + 1) % 2 ^ 64 in
       let ws : List ℕ = set s.words 0 x in
       let live = live_idle v idle in
@@ -97,7 +97,7 @@ module _ {W S E : Type 0} (start : W → S) (history : W → List (ℕ × E)) (o
       )
 
   -- a step that changes nothing
-  unmoved : (s : State (Option W) (View W E)) (i id : ℕ) (m : Holder W E) → get_elem? s.views id ≡ home.some m.0
+  unmoved : (s : State (Option W) (PassView W E)) (i id : ℕ) (m : Holder W E) → get_elem? s.views id ≡ home.some m.0
       → Holds s → Holds (stepped s i (slice_index s.words i) id m.1 m.0 keeps)
   unmoved s i id m me o =
       subst Holds (λ k. record {
@@ -107,7 +107,7 @@ module _ {W S E : Type 0} (start : W → S) (history : W → List (ℕ × E)) (o
       }) o
 
   -- its ticket is the one that is served where they agree modulo 2 ^ 64
-  agrees : (s : State (Option W) (View W E)) (o : Holds s) (id t : ℕ) (v : View W E) → Sits s.views id v
+  agrees : (s : State (Option W) (PassView W E)) (o : Holds s) (id t : ℕ) (v : PassView W E) → Sits s.views id v
       → ticket_of v.stage ≡ Some t → slice_index s.words 1 ≡ t % 2 ^ 64 → o.served ≡ t
   agrees s o id t v me has found =
       let b = o.tickets.between id t v me has in
@@ -115,20 +115,20 @@ module _ {W S E : Type 0} (start : W → S) (history : W → List (ℕ × E)) (o
       (sym o.tickets.serving ∙ found)
 
   -- while a pass waits for the ticket that is served, the slot is full
-  full : (s : State (Option W) (View W E)) (o : Holds s) (id : ℕ) (v : View W E) → length s.homes ≡ 1
+  full : (s : State (Option W) (PassView W E)) (o : Holds s) (id : ℕ) (v : PassView W E) → length s.homes ≡ 1
       → Sits s.views id v → v.stage ≡ Waiting o.served → (slot : Option W) × (s.homes ≡ home.some slot ∷ [])
   full s o id v one me waiting = ⊎_elim
       (λ (none : s.homes ≡ home.none ∷ []). let e = o.slot.empty none in
       let same : e.0 ≡ id = o.tickets.distinct e.0 id o.served e.1 v e.2 me (ap ticket_of e.3) (ap ticket_of waiting) in
       let both : e.1 ≡ v = home.some-injective e.1 v (sym e.2 ∙ (ap (λ (k : ℕ). get_elem? s.views k) same ∙ me)) in
-      let no : Serving o.served ≡ Waiting o.served = sym e.3 ∙ (ap (λ (x : View W E). x.stage) both ∙ waiting) in
+      let no : Serving o.served ≡ Waiting o.served = sym e.3 ∙ (ap (λ (x : PassView W E). x.stage) both ∙ waiting) in
       cc (no))
       (λ (some_slot : (slot : Option W) × (s.homes ≡ home.some slot ∷ [])). some_slot) (home_cases s.homes one)
 
   pub looks : (id t : ℕ) (m : Holder W E) → m.0.stage ≡ Waiting t
       → Allows Holds 1 id m 1 (λ n. n) (look start history (step 1 1 0 0 home.none) m)
   looks id t m waiting s o long me small =
-      let v : View W E = m.0 in
+      let v : PassView W E = m.0 in
       let live = live_waiting v t waiting in
       let f = o.fits id v me live in
       let ticket_is : (t' : ℕ) → v.stage ≡ Waiting t' → t ≡ t' = λ t' e. cc (waiting, e) in
@@ -140,7 +140,7 @@ module _ {W S E : Type 0} (start : W → S) (history : W → List (ℕ × E)) (o
       let slot : Option W = there.0 in
       let held = o.one_history.work slot there.1 in
       let work : W = held.0 in
-      let w : View W E = at_turn o.served o.log v in
+      let w : PassView W E = at_turn o.served o.log v in
       let x : ℕ = slice_index s.words 1 in
       let ws : List ℕ = set s.words 1 x in
       let same : (j : ℕ) → get_or ws j 0
@@ -197,8 +197,8 @@ module _ {W S E : Type 0} (start : W → S) (history : W → List (ℕ × E)) (o
       → history work ≡ m.0.seen ++ (m.0.number, e) ∷ []
       → Allows Holds slots id m 2 (λ n. (n + 1) % 2 ^ 64) (count history (step slots 2 1 0 home.none) m)
   counts slots id t m work e turn holds longer s o long me small =
-      let v : View W E = m.0 in
-      let w : View W E = adding e v in
+      let v : PassView W E = m.0 in
+      let w : PassView W E = adding e v in
       let live = live_serving v t turn in
       let k = o.slot.turn id t v me turn in
       let serving : v.stage ≡ Serving o.served = turn ∙ ap (λ (n : ℕ). Serving n) k.1 in
@@ -233,12 +233,12 @@ module _ {W S E : Type 0} (start : W → S) (history : W → List (ℕ × E)) (o
         (e, refl, λ other is. ap history (one_held other work (sym is ∙ holds)) ∙ longer),
       )
 
-  serves_here : (slots id t : ℕ) (v : View W E) (work : W) → v.stage ≡ Serving t → history work ≡ v.seen
+  serves_here : (slots id t : ℕ) (v : PassView W E) (work : W) → v.stage ≡ Serving t → history work ≡ v.seen
       → start work ≡ start opened
       → Allows Holds slots id (v, (0, Some work) ∷ []) 1 (λ n. (n + 1) % 2 ^ 64)
       (serve (step slots 1 1 0 home.none) (v, (0, Some work) ∷ []))
   serves_here slots id t v work turn whole begun s o long me small =
-      let w : View W E = at_stage Idle v in
+      let w : PassView W E = at_stage Idle v in
       let live = live_serving v t turn in
       let k = o.slot.turn id t v me turn in
       let f = o.fits id v me live in
@@ -299,7 +299,7 @@ pub is_ready : {W E : Type 0} (history : W → List (ℕ × E)) (t : ℕ) (m n :
     × (n.0.own ≡ mine m.0.number (history work))
 is_ready {W} {E} history t m n work turn holds own counted = ⊎_elim
     (λ (added : (entry : E) × (n ≡ (adding entry m.0, m.1))).
-    let v : View W E = m.0 in
+    let v : PassView W E = m.0 in
     let e : E = added.0 in
     let after : n ≡ (adding e v, m.1) = added.1 in
     let longer : history work ≡ v.seen ++ (v.number, e) ∷ [] = counted.1 work holds
@@ -319,7 +319,7 @@ is_ready {W} {E} history t m n work turn holds own counted = ⊎_elim
       ap (λ (k : Holder W E). k.0.own) same ∙ (own ∙ ap (mine m.0.number) (sym seen)),
     )) counted.0
 
-module _ {W E : Type 0} (v : View W E) (held : List (ℕ × Option W)) (m : Holder W E) (work : W) where
+module _ {W E : Type 0} (v : PassView W E) (held : List (ℕ × Option W)) (m : Holder W E) (work : W) where
   -- the seat after the work was put into the slot
   abbrev pub Puts : Type 0
   Puts = (m ≡ (v, (0, Some work) ∷ rest held)) × (held ≡ (0, None) ∷ [])
@@ -339,10 +339,10 @@ module _ {W E : Type 0} (v : View W E) (held : List (ℕ × Option W)) (m : Hold
   counts_work history t number n put turn number_is own counted =
       let p = puts_work t put turn in
       let view : v ≡ m.0 = ap (λ (k : Holder W E). k.0) (sym put.0) in
-      let number_here : number ≡ m.0.number = sym number_is ∙ ap (λ (u : View W E). u.number) view in
+      let number_here : number ≡ m.0.number = sym number_is ∙ ap (λ (u : PassView W E). u.number) view in
       let own_here : m.0.own ≡ mine m.0.number m.0.seen =
       subst (λ (k : ℕ). m.0.own ≡ mine k m.0.seen) number_here
-      (subst (λ (u : View W E). u.own ≡ mine number u.seen) view own) in
+      (subst (λ (u : PassView W E). u.own ≡ mine number u.seen) view own) in
       let ready = is_ready history t m n work p.0 p.1 own_here counted in
       (ready.0, ready.1, ready.2, ready.3 ∙ ap (λ (k : ℕ). mine k (history work)) (sym number_here))
 

@@ -6,18 +6,18 @@ use Rattle.std.specs.Prelude.{◌≡◌, ◌≢◌, ℕ, ◌+◌, ◌%◌, ◌^�
 use mathlib.Core.List.{IsPrefix}
 use Rattle.atomic_table.specs.Table.{Me, Step}
 use Rattle.nomos_floor.specs.OwnEntries.{mine, longer, without_number}
-use Rattle.nomos_floor.specs.declared.view.View.{View}
+use Rattle.nomos_floor.specs.declared.view.PassView.{PassView}
 use Rattle.nomos_floor.specs.declared.view.Stage.{Stage}
 use Rattle.nomos_floor.specs.declared.view.Stage.TheVariants.{Idle, Waiting, Serving}
 
 abbrev pub Holder : Type 0 → Type 0 → Type 0
-Holder W E = Me (Option W) (View W E)
+Holder W E = Me (Option W) (PassView W E)
 
 abbrev pub AtomicStep : Type 0 → Type 0 → Type 1
 AtomicStep W E = Step (Option W) → Holder W E → ℕ → Holder W E → Type 0
 
 module _ {W E : Type 0} where
-  abbrev pub at_stage : Stage → View W E → View W E
+  abbrev pub at_stage : Stage → PassView W E → PassView W E
   at_stage stage v = record v { stage = stage }
 
   -- `draw`, 1 is added to `ticket`: the number found is its ticket
@@ -25,13 +25,13 @@ module _ {W E : Type 0} where
   draw step m found n = (ticket : ℕ) × (ticket % 2 ^ 64 ≡ found) × (n ≡ (at_stage (Waiting ticket) m.0, m.1))
 
   -- it has its turn, and has seen this history
-  abbrev pub at_turn : ℕ → List (ℕ × E) → View W E → View W E
+  abbrev pub at_turn : ℕ → List (ℕ × E) → PassView W E → PassView W E
   at_turn ticket history v = record v { stage = Serving ticket; seen = history }
 
   module _ {S : Type 0} (start : W → S) (history : W → List (ℕ × E)) where
     -- The work has the start of the opened one, and a history that begins with what the pass had seen and has of it
     -- just its own entries
-    abbrev pub Continues : View W E → W → Type 0
+    abbrev pub Continues : PassView W E → W → Type 0
     Continues v work =
         ((opened : W) → v.opened ≡ Some opened → start work ≡ start opened)
         × IsPrefix v.seen (history work)
@@ -46,7 +46,7 @@ module _ {W E : Type 0} where
         × (found ≢ ticket % 2 ^ 64 → n ≡ m)
 
   -- it has added an entry
-  abbrev pub adding : E → View W E → View W E
+  abbrev pub adding : E → PassView W E → PassView W E
   adding entry v = record v { seen = v.seen ++ (v.number, entry) ∷ []; own = v.own ++ entry ∷ [] }
 
   -- `count`, 1 is added to `count`: the firing. The work that the seat holds has the entry as its last
@@ -61,11 +61,11 @@ module _ {W E : Type 0} where
   serve step m found n = n ≡ (at_stage Idle m.0, [])
 
   -- `split`, of the opening seat in two: what the opening pass knows then
-  abbrev pub split_off : View W E → View W E
+  abbrev pub split_off : PassView W E → PassView W E
   split_off v = record v { next = v.next + 1; out = v.out ++ v.next ∷ [] }
 
   -- and what the new one knows
-  abbrev pub newcomer : View W E → View W E
+  abbrev pub newcomer : PassView W E → PassView W E
   newcomer v = record {
     stage = Idle;
     opened = v.opened;
@@ -79,7 +79,7 @@ module _ {W E : Type 0} where
   }
 
   -- `join`, of another seat into the opening one: what the opening pass knows then. The other pass has ended
-  abbrev pub joined : View W E → View W E → View W E
+  abbrev pub joined : PassView W E → PassView W E → PassView W E
   joined v w = record v {
     told = w.seen;
     out = without_number w.number v.out;
@@ -87,7 +87,7 @@ module _ {W E : Type 0} where
   }
 
   -- it has seen the longer of the two histories
-  abbrev pub learned : View W E → View W E
+  abbrev pub learned : PassView W E → PassView W E
   learned v = record v { seen = longer v.seen v.told; told = [] }
 
   -- `learn`, a load of `ticket` behind `join`: of the two histories that it knows the longer begins with both

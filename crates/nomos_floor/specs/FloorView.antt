@@ -1,6 +1,6 @@
 -- What a pass knows: its ticket, whether it is live, and how it begins and ends.
 use Rattle.std.specs.Prelude.{ℕ, Option, Some, None, is_some, if◌then◌else◌, List, [], ◌∷◌}
-use Rattle.nomos_floor.specs.declared.view.View.{View}
+use Rattle.nomos_floor.specs.declared.view.PassView.{PassView}
 use Rattle.nomos_floor.specs.declared.view.Stage.{Stage}
 use Rattle.nomos_floor.specs.declared.view.Stage.TheVariants.{Idle, Waiting, Serving, Ended}
 
@@ -27,7 +27,7 @@ if_live _ live ended = live
 
 module _ {W E : Type 0} where
   -- the opening pass, before the first step
-  abbrev pub opening_view : W → View W E
+  abbrev pub opening_view : W → PassView W E
   opening_view work = record {
     stage = Idle;
     opened = Some work;
@@ -41,7 +41,7 @@ module _ {W E : Type 0} where
   }
 
   -- what a pass that was joined leaves behind
-  abbrev pub ended_view : View W E
+  abbrev pub ended_view : PassView W E
   ended_view = record {
     stage = Ended;
     opened = None;
@@ -55,6 +55,6 @@ module _ {W E : Type 0} where
   }
 
   -- the numbers of the live passes
-  abbrev pub live_numbers : List (View W E) → List ℕ
+  abbrev pub live_numbers : List (PassView W E) → List ℕ
   live_numbers [] = []
   live_numbers (v ∷ views) = if_live v.stage (v.number ∷ live_numbers views) (live_numbers views)

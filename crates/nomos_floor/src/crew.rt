@@ -5,7 +5,7 @@ ghost use Rattle.nomos_floor.specs.FloorPass.{IsPassOf, IsOpening, next_of, out_
 ghost use Rattle.nomos_floor.specs.FloorCrew.{IsManned, IsStationOf, IsNewStation, HasSplitOff, HasTakenIn, passes_at, numbers_at};
 
 use crate::floor::{Floor, Pass};
-use crate::shared::Shared;
+use crate::shared_work::Shared;
 use std::alloc::{AllocError, Global};
 
 /// Where a worker of a crew finds its pass, puts it back, and leaves its answer.

@@ -3,8 +3,8 @@ ghost use Rattle.std.specs.Prelude.{◌≡◌, ℕ, ◌+◌, ◌-◌, ◌%◌, �
 ghost use mathlib.Core.List.{IsPrefix};
 
 use crate::rule::{Count, Draw, FloorRule, Learn, Look, Serve, SplitOff, TakeIn};
-use crate::shared::Shared;
-use crate::view::View;
+use crate::shared_work::Shared;
+use crate::view::PassView;
 use atomic_table::{Refused, Seat, Table};
 use std::alloc::Global;
 use std::snapshot::Snapshot;
@@ -36,7 +36,7 @@ fn pause(looks: u32) {
 /// A work that passes take in turns. `docs/FLOOR.md` has its steps, and what holds between any two.
 #[derive(Drop)]
 pub struct Floor<W: Shared> {
-    table: Table<Option<W>, View<W, W::Entry>, Snapshot<W>, FloorRule<W>, Global>,
+    table: Table<Option<W>, PassView<W, W::Entry>, Snapshot<W>, FloorRule<W>, Global>,
     ghost sized: { (table.shared.table_id.words ≡ 3) × (table.shared.table_id.slots ≡ 1) },
 }
 
@@ -46,7 +46,7 @@ pub struct Floor<W: Shared> {
 pub struct Pass<W: Shared> {
     number: u32,
     next: u32,
-    seat: Seat<Option<W>, View<W, W::Entry>>,
+    seat: Seat<Option<W>, PassView<W, W::Entry>>,
 }
 
 /// A turn: the work, out of its place until it goes back by `give_back`. It has no `Drop`, so that it can't be lost.
@@ -124,7 +124,12 @@ impl<W: Shared> Floor<W> {
     }
 
     // Waits until the ticket is served. The work is then out with the seat.
-    fn wait_for<R: Wait>(&self, rt: &R, seat: &mut Seat<Option<W>, View<W, W::Entry>>, ticket: u64)
+    fn wait_for<R: Wait>(
+        &self,
+        rt: &R,
+        seat: &mut Seat<Option<W>, PassView<W, W::Entry>>,
+        ticket: u64,
+    )
         requires table { seat.old.table_id ≡ self.now.table.shared.table_id }
         requires drawn { HasDrawn ticket seat.old.me }
         ensures table { seat.new.table_id ≡ seat.old.table_id }
@@ -168,7 +173,7 @@ impl<W: Shared> Floor<W> {
     }
 
     // Counts the last entry of the work that the seat holds, if it is new.
-    fn count_new(&self, seat: &mut Seat<Option<W>, View<W, W::Entry>>, is_new: bool)
+    fn count_new(&self, seat: &mut Seat<Option<W>, PassView<W, W::Entry>>, is_new: bool)
         requires table { seat.old.table_id ≡ self.now.table.shared.table_id }
         requires turn { HoldsWork seat.old.me }
         requires new { IsNew W.history is_new seat.old.me }

@@ -4,7 +4,7 @@
 pub mod crew;
 pub mod floor;
 mod rule;
-pub mod shared;
+pub mod shared_work;
 #[cfg(test)]
 mod tests;
 mod view;

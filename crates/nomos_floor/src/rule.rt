@@ -3,8 +3,8 @@ ghost use Rattle.nomos_floor.specs.FloorInvariant.{Invariant};
 ghost use Rattle.nomos_floor.specs.FloorView.{opening_view, ended_view};
 ghost use Rattle.nomos_floor.specs.FloorSteps.{draw, look, count, serve, split_off, newcomer, joined, learn};
 
-use crate::shared::Shared;
-use crate::view::View;
+use crate::shared_work::Shared;
+use crate::view::PassView;
 use atomic_table::{Join, Play, Split, TableRule};
 use std::marker::PhantomData;
 use std::snapshot::Snapshot;
@@ -14,7 +14,7 @@ pub struct FloorRule<W> {
     work: PhantomData<W>,
 }
 
-impl<W: Shared> TableRule<Option<W>, View<W, W::Entry>, Snapshot<W>> for FloorRule<W> {
+impl<W: Shared> TableRule<Option<W>, PassView<W, W::Entry>, Snapshot<W>> for FloorRule<W> {
     ghost holds = { λ key. Invariant W.start W.history key.value };
 
     ghost first = { λ key. opening_view key.value };
@@ -23,7 +23,7 @@ impl<W: Shared> TableRule<Option<W>, View<W, W::Entry>, Snapshot<W>> for FloorRu
 /// A ticket is drawn.
 pub(crate) struct Draw;
 
-impl<W, E> Play<Option<W>, View<W, E>> for Draw {
+impl<W, E> Play<Option<W>, PassView<W, E>> for Draw {
     ghost then = { draw };
 }
 
@@ -32,7 +32,7 @@ pub(crate) struct Look<W> {
     work: PhantomData<W>,
 }
 
-impl<W: Shared> Play<Option<W>, View<W, W::Entry>> for Look<W> {
+impl<W: Shared> Play<Option<W>, PassView<W, W::Entry>> for Look<W> {
     ghost then = { look W.start W.history };
 }
 
@@ -41,28 +41,28 @@ pub(crate) struct Count<W> {
     work: PhantomData<W>,
 }
 
-impl<W: Shared> Play<Option<W>, View<W, W::Entry>> for Count<W> {
+impl<W: Shared> Play<Option<W>, PassView<W, W::Entry>> for Count<W> {
     ghost then = { count W.history };
 }
 
 /// The next ticket is served.
 pub(crate) struct Serve;
 
-impl<W, E> Play<Option<W>, View<W, E>> for Serve {
+impl<W, E> Play<Option<W>, PassView<W, E>> for Serve {
     ghost then = { serve };
 }
 
 /// The opening pass learns which history is the longer.
 pub(crate) struct Learn;
 
-impl<W, E> Play<Option<W>, View<W, E>> for Learn {
+impl<W, E> Play<Option<W>, PassView<W, E>> for Learn {
     ghost then = { learn };
 }
 
 /// A pass is split off the opening one.
 pub(crate) struct SplitOff;
 
-impl<W, E> Split<View<W, E>> for SplitOff {
+impl<W, E> Split<PassView<W, E>> for SplitOff {
     ghost left = { split_off };
 
     ghost right = { newcomer };
@@ -71,7 +71,7 @@ impl<W, E> Split<View<W, E>> for SplitOff {
 /// The opening pass takes in another.
 pub(crate) struct TakeIn;
 
-impl<W, E> Join<View<W, E>> for TakeIn {
+impl<W, E> Join<PassView<W, E>> for TakeIn {
     ghost both = { joined };
 
     ghost spent = { ended_view };

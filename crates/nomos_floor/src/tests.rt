@@ -5,7 +5,7 @@ ghost use Rattle.nomos_floor.specs.FloorCrew.{IsManned, KeepsStation, KeepStatio
 
 use crate::crew::{Station, join_all, split_all};
 use crate::floor::{Floor, OpenError, Pass};
-use crate::shared::Shared;
+use crate::shared_work::Shared;
 use std::alloc::{AllocError, Global};
 use std::sync::Wait;
 use std::test::Fail;
@@ -22,12 +22,12 @@ trait Adds: Shared {
 
 /// A row of entries, each with the number of the pass that added it.
 #[derive(Drop)]
-struct Row<'a> {
+struct EntryRow<'a> {
     label: &'a u32,
     entries: Vec<(u32, u32)>,
 }
 
-impl<'a> Shared for Row<'a> {
+impl<'a> Shared for EntryRow<'a> {
     type Start = u32;
 
     type Entry = u32;
@@ -41,7 +41,7 @@ impl<'a> Shared for Row<'a> {
     }
 }
 
-impl<'a> Adds for Row<'a> {
+impl<'a> Adds for EntryRow<'a> {
     fn add(&mut self, number: u32, entry: u32) {
         let _ = self.entries.push((number, entry));
     }
@@ -121,7 +121,7 @@ fn after_all<W: Adds + Send, R: Threads + Wait + Sync>(
 fn each_thread_has_its_entries_once_in_order(rt: HostRuntime) -> Result<(), Fail> {
     let label = 7;
     for threads in [2u32, 16] {
-        let row = Row {
+        let row = EntryRow {
             label: &label,
             entries: Vec::new(rt.alloc()),
         };

@@ -14,7 +14,7 @@ pub enum Stage {
 }
 
 /// What a pass knows.
-pub struct View<W, E> {
+pub struct PassView<W, E> {
     pub stage: Stage,
     /// The work with which the floor was opened. A pass that was joined has none.
     pub opened: Option<W>,

@@ -9,7 +9,7 @@ use Rattle.nomos_ir.specs.declared.amount.Amount.{Amount}
 use Rattle.nomos_forms.specs.Bounds.{IsSmall, IsRow}
 use Rattle.nomos_forms.specs.RowsOf.{difference_row, units_in}
 use Rattle.nomos_forms.specs.declared.row.Row.{Row}
-use Rattle.nomos_forms.specs.mirror.Counts.{count_in}
+use Rattle.nomos_forms.specs.mirror.StarCounts.{count_in}
 use Rattle.nomos_forms.specs.mirror.SameRows.{HasSame}
 use Rattle.nomos_forms.proofs.CountLemmas.{counts-small}
 

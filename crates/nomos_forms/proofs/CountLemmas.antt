@@ -8,7 +8,7 @@ use Rattle.std.proofs.lemmas.List.Elements.{All-nil, All-cons}
 use Rattle.std.proofs.lemmas.List.FromFn.{get_or-map-range_with_len, length-map-range_with_len}
 use Rattle.std.specs.List.{range_with_len, flat_map}
 use Rattle.nomos_forms.specs.Bounds.{IsSmall}
-use Rattle.nomos_forms.specs.mirror.Counts.{count_in, counts, counts_with, all_counts}
+use Rattle.nomos_forms.specs.mirror.StarCounts.{count_in, counts, counts_with, all_counts}
 
 small-between : (b c : Bool) → IsSmall (cond b (pos 1) (pos 0) -ℤ cond c (pos 1) (pos 0))
 small-between true true = omega arith

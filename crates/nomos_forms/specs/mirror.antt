@@ -1,5 +1,5 @@
 pub mod Collected
-pub mod Counts
+pub mod StarCounts
 pub mod GroupEnds
 pub mod Joining
 pub mod SameRows

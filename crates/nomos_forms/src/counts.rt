@@ -2,8 +2,8 @@
 //! there are few such lists, and a group of rows for each.
 ghost use Rattle.std.specs.Prelude.{◌≡◌, ℕ, ◌+◌, ◌<◌, ◌≤◌, ◌-ℤ◌, ◌++◌, [], IfOk, length, slice_index_or};
 ghost use Rattle.nomos_forms.specs.RowGroups.{rows_in};
-ghost use Rattle.nomos_forms.specs.mirror.Counts as counts;
-ghost use Rattle.nomos_forms.specs.mirror.Counts.{count_in, counts_with, all_counts};
+ghost use Rattle.nomos_forms.specs.mirror.StarCounts as counts;
+ghost use Rattle.nomos_forms.specs.mirror.StarCounts.{count_in, counts_with, all_counts};
 ghost use Rattle.nomos_forms.specs.mirror.Joining.{coefs_of};
 
 use crate::row_group::RowGroup;

@@ -12,7 +12,7 @@ pub mod row;
 mod row_group;
 pub mod row_list;
 pub mod rows;
-pub mod shared;
 pub mod shared_coefs;
+pub mod shared_list;
 mod sorting;
 pub mod verdict;

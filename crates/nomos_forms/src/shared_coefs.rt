@@ -4,7 +4,7 @@ ghost use Rattle.std.specs.Cmp.Lexicographic.{pointwise, slice_cmp};
 ghost use Rattle.std.specs.Ordering.{int_cmp, int_eq};
 ghost use Rattle.nomos_forms.specs.mirror.Zeros.{IsZeroBefore, IsZeroFrom};
 
-use crate::shared::Shared;
+use crate::shared_list::SharedList;
 use std::alloc::{AllocError, Global};
 use std::cmp::Ordering;
 use std::marker::Model;
@@ -13,7 +13,7 @@ use std::marker::Model;
 /// may own them together. Most are 0, so it is kept where others stand, and two lists are compared there alone.
 #[derive(Drop, Debug)]
 pub struct SharedCoefs {
-    coefs: Shared<i64>,
+    coefs: SharedList<i64>,
     first: usize,
     end: usize,
 }
@@ -64,7 +64,7 @@ impl SharedCoefs {
     {
         let first = zeros_before(&coefs);
         let end = zeros_from(&coefs).max(first);
-        let coefs = Shared::of_vec(alloc, coefs)?;
+        let coefs = SharedList::of_vec(alloc, coefs)?;
         Ok(SharedCoefs { coefs, first, end })
     }
 

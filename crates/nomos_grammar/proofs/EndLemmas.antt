@@ -27,7 +27,7 @@ use Rattle.nomos_grammar.specs.declared.part.Terminal.{Terminal}
 use Rattle.nomos_grammar.specs.declared.part.Mark.{Mark}
 use Rattle.nomos_grammar.specs.declared.part.Part.{Part}
 use Rattle.nomos_grammar.specs.declared.part.Part.TheVariants as part
-use Rattle.nomos_grammar.specs.Counting.{Counts}
+use Rattle.nomos_grammar.specs.CountedPlaces.{Counts}
 use Rattle.nomos_grammar.specs.Producing.{Event, token, mark, tokens_in, Produces, nothing, read, IsFile}
 use Rattle.nomos_grammar.specs.mirror.Stacks.{next_in}
 use Rattle.nomos_grammar.specs.mirror.ReaderStates.{events_of, Leads, Settles, HasRead}

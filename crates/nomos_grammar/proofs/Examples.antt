@@ -6,7 +6,7 @@ use Rattle.nomos_syntax.specs.declared.symbol.Symbol.{Symbol}
 use Rattle.nomos_syntax.specs.declared.symbol.Symbol.TheVariants as sym
 use Rattle.nomos_syntax.specs.Lexeme.{Lexeme, name, reserved, number, symbol}
 use Rattle.nomos_grammar.specs.declared.part.Mark.TheVariants as mark
-use Rattle.nomos_grammar.specs.Counting.{depth, counts}
+use Rattle.nomos_grammar.specs.CountedPlaces.{depth, counts}
 use Rattle.nomos_grammar.specs.Producing.{
   Event,
   token,

@@ -34,7 +34,7 @@ use Rattle.nomos_grammar.specs.declared.offence.GrammarError.TheVariants.{Syntax
 use Rattle.nomos_grammar.specs.declared.reader.Reader.{Reader}
 use Rattle.nomos_grammar.specs.Offence.{rules, KeepsAll, AllKeep, Offends, Answers}
 use Rattle.nomos_grammar.specs.mirror.ReaderStates.{BreaksBy}
-use Rattle.nomos_grammar.specs.mirror.Readers.{ReadsAs}
+use Rattle.nomos_grammar.specs.mirror.TokenReaders.{ReadsAs}
 
 -- one token more keeps to all rules
 pub keep_more : (behind front : List Placed) (x : Placed) → AllKeep behind front →

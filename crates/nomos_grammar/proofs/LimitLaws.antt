@@ -1,9 +1,9 @@
 -- In a file whose tokens keep to all rules, what counts at each token is within the limits.
 use Rattle.std.proofs.Common.{◌≡◌, ◌≤◌, List, [], ◌∷◌, ◌++◌, refl, sym, ap, subst, ◌∙◌}
 use Rattle.nomos_syntax.specs.Lexeme.{Placed}
-use Rattle.nomos_syntax.specs.Limits.{nesting_limit, node_limit}
+use Rattle.nomos_syntax.specs.TextLimits.{nesting_limit, node_limit}
 use Rattle.nomos_grammar.specs.declared.part.Part.{Part}
-use Rattle.nomos_grammar.specs.Counting.{Counts, depth, counts}
+use Rattle.nomos_grammar.specs.CountedPlaces.{Counts, depth, counts}
 use Rattle.nomos_grammar.specs.Producing.{
   Event,
   token,

@@ -29,7 +29,7 @@ use Rattle.std.proofs.Common.{
 }
 use Rattle.std.proofs.lemmas.Bool.{ltb-true, ltb-false}
 use Rattle.nomos_syntax.specs.Lexeme.{Lexeme, Placed}
-use Rattle.nomos_syntax.specs.Limits.{nesting_limit, node_limit}
+use Rattle.nomos_syntax.specs.TextLimits.{nesting_limit, node_limit}
 use Rattle.nomos_grammar.specs.declared.offence.GrammarError.TheVariants.{Syntax, Limit}
 use Rattle.nomos_grammar.specs.declared.offence.Which.{Which}
 use Rattle.nomos_grammar.specs.declared.offence.Which.TheVariants as which
@@ -37,7 +37,7 @@ use Rattle.nomos_grammar.specs.declared.part.Terminal.{Terminal}
 use Rattle.nomos_grammar.specs.declared.part.Terminal.TheVariants as terminal
 use Rattle.nomos_grammar.specs.declared.part.Part.{Part}
 use Rattle.nomos_grammar.specs.declared.part.Part.TheVariants as part
-use Rattle.nomos_grammar.specs.Counting.{Counts, nothing_counted, depth, after_token}
+use Rattle.nomos_grammar.specs.CountedPlaces.{Counts, nothing_counted, depth, after_token}
 use Rattle.nomos_grammar.specs.Producing.{terminal_of, Fits, file}
 use Rattle.nomos_grammar.specs.Offence.{
   star_limit,

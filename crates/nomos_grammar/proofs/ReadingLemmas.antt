@@ -6,7 +6,7 @@ use Rattle.nomos_grammar.specs.declared.part.Mark.{Mark}
 use Rattle.nomos_grammar.specs.declared.part.Mark.TheVariants as mark
 use Rattle.nomos_grammar.specs.declared.part.Part.{Part}
 use Rattle.nomos_grammar.specs.declared.part.Part.TheVariants as part
-use Rattle.nomos_grammar.specs.Counting.{
+use Rattle.nomos_grammar.specs.CountedPlaces.{
   Counts,
   in_terms,
   one_operator_more,

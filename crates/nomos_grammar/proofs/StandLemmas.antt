@@ -5,7 +5,7 @@ use Rattle.nomos_grammar.specs.declared.part.Terminal.{Terminal}
 use Rattle.nomos_grammar.specs.declared.part.Mark.{Mark}
 use Rattle.nomos_grammar.specs.declared.part.Part.{Part}
 use Rattle.nomos_grammar.specs.declared.part.Part.TheVariants as part
-use Rattle.nomos_grammar.specs.Counting.{Counts, nothing_counted, after_token, counts_from, counts}
+use Rattle.nomos_grammar.specs.CountedPlaces.{Counts, nothing_counted, after_token, counts_from, counts}
 use Rattle.nomos_grammar.specs.Producing.{
   terminal_of,
   Fits,

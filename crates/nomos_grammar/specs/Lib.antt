@@ -1,4 +1,4 @@
-pub mod Counting
+pub mod CountedPlaces
 pub mod Grammar
 pub mod Offence
 pub mod Producing

@@ -2,12 +2,12 @@
 use Rattle.std.specs.Prelude.{◌≡◌, ℕ, ◌≤◌, List, [], ◌∷◌, ◌++◌, Result, Ok, Err, ◌⊎◌}
 use Rattle.std.specs.Str.Parse.{digits_value}
 use Rattle.nomos_syntax.specs.Lexeme.{Lexeme, name, reserved, number, symbol, bad, Placed}
-use Rattle.nomos_syntax.specs.Limits.{nesting_limit, node_limit, IsShort}
+use Rattle.nomos_syntax.specs.TextLimits.{nesting_limit, node_limit, IsShort}
 use Rattle.nomos_grammar.specs.declared.offence.GrammarError.{GrammarError}
 use Rattle.nomos_grammar.specs.declared.offence.GrammarError.TheVariants.{Syntax, Limit, NoMemory}
 use Rattle.nomos_grammar.specs.declared.offence.Which.{Which}
 use Rattle.nomos_grammar.specs.declared.offence.Which.TheVariants as which
-use Rattle.nomos_grammar.specs.Counting.{Counts, depth, counts}
+use Rattle.nomos_grammar.specs.CountedPlaces.{Counts, depth, counts}
 use Rattle.nomos_grammar.specs.Producing.{Event, token, tokens_in, Produces, file, IsFile}
 
 -- the most stars of a text, and the largest number

@@ -3,4 +3,4 @@ pub mod Stacks
 pub mod ReaderStates
 pub mod Tallies
 pub mod Sights
-pub mod Readers
+pub mod TokenReaders

@@ -2,8 +2,8 @@
 #![tactic(auto)]
 
 pub mod offence;
+mod open_counts;
 pub mod part;
+mod productions;
 mod reader;
-mod sight;
-mod table;
-mod tally;
+mod token_sight;

@@ -7,7 +7,7 @@ ghost use Rattle.nomos_grammar.specs.declared.offence.GrammarError.TheVariants.{
 ghost use Rattle.nomos_grammar.specs.Offence.{Answers};
 
 use crate::reader::Reader;
-use crate::sight::look_at;
+use crate::token_sight::look_at;
 use nomos_syntax::token::TokenList;
 use std::alloc::{AllocError, Global};
 use thiserror::Error;

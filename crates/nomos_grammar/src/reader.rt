@@ -2,13 +2,13 @@
 ghost use Rattle.std.specs.Prelude.{◌≡◌, OnOk, IfOk, IsTrue};
 ghost use Rattle.nomos_grammar.specs.mirror.ReaderStates.{IsReady, is_asked};
 ghost use Rattle.nomos_grammar.specs.mirror.Tallies.{counts_of, IsKept, SettlesTo};
-ghost use Rattle.nomos_grammar.specs.mirror.Readers.{IsSteady, ReadsOn, EndsWell, HasBegun};
+ghost use Rattle.nomos_grammar.specs.mirror.TokenReaders.{IsSteady, ReadsOn, EndsWell, HasBegun};
 
 use crate::offence::{GrammarError, Which};
+use crate::open_counts::{Counted, NODE_LIMIT};
 use crate::part::{Nonterminal, Part, Terminal};
-use crate::sight::Sight;
-use crate::table::{push_parts, side_of};
-use crate::tally::{NODE_LIMIT, Tally};
+use crate::productions::{push_parts, side_of};
+use crate::token_sight::TokenSight;
 use nomos_ir::stack::Stack;
 use std::alloc::{AllocError, Global};
 
@@ -17,7 +17,7 @@ use std::alloc::{AllocError, Global};
 pub(crate) struct Reader {
     /// What has to follow, the first part on the top.
     pub(crate) parts: Stack<Part>,
-    pub(crate) tally: Tally,
+    pub(crate) tally: Counted,
     /// The offset of the token just read.
     pub(crate) last: u32,
 }
@@ -26,7 +26,7 @@ pub(crate) struct Reader {
 /// the alternative that this token chooses. None where nothing has to follow.
 pub(crate) fn next_terminal(
     parts: &mut Stack<Part>,
-    tally: &mut Tally,
+    tally: &mut Counted,
     next: Option<Terminal>,
 ) -> Result<Option<Terminal>, AllocError>
     requires kept { IsKept tally.old }
@@ -65,13 +65,13 @@ impl Reader {
         parts.push(Part::Nonterminal(Nonterminal::File))?;
         Ok(Reader {
             parts,
-            tally: Tally::new(alloc),
+            tally: Counted::new(alloc),
             last: 0,
         })
     }
 
     /// Reads one token. The error is that of the first rule that it breaks; the reader is of no use after it.
-    pub(crate) fn read(&mut self, sight: Sight) -> Result<(), GrammarError>
+    pub(crate) fn read(&mut self, sight: TokenSight) -> Result<(), GrammarError>
         requires { IsSteady self.old }
         ensures reads { ReadsOn self.old sight self.new result }
         ensures steady { OnOk result (IsSteady self.new) }

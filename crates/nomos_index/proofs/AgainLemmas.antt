@@ -6,7 +6,7 @@ use Rattle.nomos_ir.specs.declared.ids.VarId.{VarId}
 use Rattle.nomos_machine.specs.declared.object.PotentialList.{PotentialList}
 use Rattle.nomos_slots.specs.Cells.{Cell, name_in}
 use Rattle.nomos_slots.specs.Marking.{Marking}
-use Rattle.nomos_slots.specs.Tables.{HaveSameNames}
+use Rattle.nomos_slots.specs.ChannelTables.{HaveSameNames}
 use Rattle.nomos_slots.specs.Shelving.{Shelving}
 use Rattle.nomos_slots.specs.declared.numbered.Slot.{Slot}
 use Rattle.nomos_index.specs.Indexed.{HasRoom, IsHolding, IsIndexed, held_marked, held_now, state_of}

@@ -12,9 +12,9 @@ use Rattle.nomos_parts.specs.declared.newborn.Newborn.{Newborn}
 use Rattle.nomos_slots.specs.Cells.{Cell, name_in}
 use Rattle.nomos_slots.specs.Marking.{Marking}
 use Rattle.nomos_slots.specs.Shelving.{Shelving}
-use Rattle.nomos_slots.specs.Tables.{HaveSameNames}
+use Rattle.nomos_slots.specs.ChannelTables.{HaveSameNames}
 use Rattle.nomos_slots.specs.declared.numbered.Slot.{Slot}
-use Rattle.nomos_index.specs.Coming.{ObjectComes, name_with}
+use Rattle.nomos_index.specs.ObjectsCome.{ObjectComes, name_with}
 use Rattle.nomos_index.specs.Indexed.{HasRoom, IsIndexed, held_marked, held_now, state_of}
 use Rattle.nomos_index.specs.Objects.{AscendsIf, channels_of, kept_of, process_held}
 use Rattle.nomos_index.specs.Spanning.{HasVariable}

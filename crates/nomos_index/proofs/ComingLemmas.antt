@@ -17,10 +17,10 @@ use Rattle.nomos_slots.specs.Cells.{Cell, name_in}
 use Rattle.nomos_slots.specs.Marking.{Marking}
 use Rattle.nomos_slots.specs.Numbers.{IsAscending, found, numbers}
 use Rattle.nomos_slots.specs.Shelving.{Shelving}
-use Rattle.nomos_slots.specs.Tables.{HaveSameNames}
+use Rattle.nomos_slots.specs.ChannelTables.{HaveSameNames}
 use Rattle.nomos_slots.specs.declared.numbered.Slot.{Slot}
 use Rattle.nomos_slots.proofs.NumberLaws.{ascending-push, found-push, found-push_other}
-use Rattle.nomos_index.specs.Coming.{ObjectComes}
+use Rattle.nomos_index.specs.ObjectsCome.{ObjectComes}
 use Rattle.nomos_index.specs.Indexed.{Holding, HasRoom, IsHolding, IsIndexed, held_now, state_of}
 use Rattle.nomos_index.specs.Objects.{FitRows, AreHeld, FitsRow, ListRow, ValueRow, message_held, object_of, objects_of}
 use Rattle.nomos_index.specs.Spanning.{Spans}

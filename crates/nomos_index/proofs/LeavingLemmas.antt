@@ -15,7 +15,7 @@ use Rattle.nomos_slots.specs.Cells.{Cell, name_in}
 use Rattle.nomos_slots.specs.Marking.{Marking}
 use Rattle.nomos_slots.specs.Numbers.{put_at}
 use Rattle.nomos_slots.specs.Shelving.{Shelving}
-use Rattle.nomos_slots.specs.Tables.{HaveSameNames}
+use Rattle.nomos_slots.specs.ChannelTables.{HaveSameNames}
 use Rattle.nomos_slots.specs.declared.numbered.Slot.{Slot}
 use Rattle.nomos_index.specs.Indexed.{Holding, HasRoom, IsIndexed, held_now, state_of}
 use Rattle.nomos_index.specs.Looked.{ObjectIsAt}

@@ -4,7 +4,7 @@ use Rattle.std.proofs.lemmas.List.{at_drop_more}
 use Rattle.std.proofs.Math.ListN.{drop_of_length-le}
 use Rattle.nomos_ir.specs.Bindings.{bound_to}
 use Rattle.nomos_ir.specs.declared.ids.VarId.{VarId}
-use Rattle.nomos_index.specs.Coming.{name_or, name_with}
+use Rattle.nomos_index.specs.ObjectsCome.{name_or, name_with}
 
 more-cases : (own here : Bool) (name : ℕ) (later old : Option ℕ)
     → cond (own && here) (Some name) (cond own (name_or later old) old)

@@ -7,9 +7,9 @@ use Rattle.nomos_parts.specs.SmallChanges.{Becomes, with_channels}
 use Rattle.nomos_slots.specs.Cells.{Cell, name_in}
 use Rattle.nomos_slots.specs.Marking.{Marking}
 use Rattle.nomos_slots.specs.Numbers.{put_at}
-use Rattle.nomos_slots.specs.Tables.{HaveSameNames}
+use Rattle.nomos_slots.specs.ChannelTables.{HaveSameNames}
 use Rattle.nomos_slots.specs.declared.numbered.Slot.{Slot}
-use Rattle.nomos_index.specs.Coming.{name_with}
+use Rattle.nomos_index.specs.ObjectsCome.{name_with}
 use Rattle.nomos_index.specs.Indexed.{IsIndexed, held_marked, held_now, state_of}
 use Rattle.nomos_index.specs.Looked.{ProcessIsAt}
 use Rattle.nomos_index.specs.Objects.{channels_of}

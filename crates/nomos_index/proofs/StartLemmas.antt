@@ -16,8 +16,8 @@ use Rattle.nomos_slots.specs.declared.numbered.Slot.{Slot}
 use Rattle.nomos_index.specs.Indexed.{Holding}
 use Rattle.nomos_index.specs.Objects.{kept_in, object_of, process_held}
 use Rattle.nomos_index.specs.Sought.{StandsNotBefore, passes_at, some_passes, typed_at, typed_in}
-use Rattle.nomos_index.specs.Starting.{AreNotOver}
-use Rattle.nomos_index.specs.Walks.{is_over, is_owned_over}
+use Rattle.nomos_index.specs.SlotsOver.{AreNotOver}
+use Rattle.nomos_index.specs.IndexWalks.{is_over, is_owned_over}
 use Rattle.nomos_index.specs.declared.kept.Kept.{Kept}
 use Rattle.nomos_index.specs.declared.kept.Kept.TheVariants as kept
 

@@ -11,7 +11,7 @@ use Rattle.nomos_slots.specs.declared.numbered.Slot.{Slot}
 use Rattle.nomos_index.specs.Indexed.{Holding, IsHolding, standing_at}
 use Rattle.nomos_index.specs.Objects.{ListRow, ValueRow, object_of, objects_of, types_of}
 use Rattle.nomos_index.specs.Sought.{IsFirstName, some_passes, typed_at, typed_in}
-use Rattle.nomos_index.specs.Walks.{purse_in}
+use Rattle.nomos_index.specs.IndexWalks.{purse_in}
 use Rattle.nomos_index.specs.declared.kept.Kept.{Kept}
 use Rattle.nomos_index.proofs.SeekLemmas.{first-is, standing_in}
 

@@ -7,7 +7,7 @@ use Rattle.nomos_ir.specs.Bindings.{bound_to}
 use Rattle.nomos_ir.specs.Order.{count_of}
 use Rattle.nomos_ir.proofs.SumLaws.{count-after_unbind}
 use Rattle.nomos_deeds.specs.Readers.{stands_for}
-use Rattle.nomos_deeds.specs.Seen.{seen_message, seen_process}
+use Rattle.nomos_deeds.specs.SeenObjects.{seen_message, seen_process}
 use Rattle.nomos_machine.specs.Objects.{message_of, object_at, process_of, provided, used}
 use Rattle.nomos_machine.specs.Sight.{is_offered, is_read_on}
 use Rattle.nomos_machine.specs.declared.object.Message.{Message}
@@ -16,7 +16,7 @@ use Rattle.nomos_machine.specs.declared.object.Object.TheVariants as object
 use Rattle.nomos_machine.specs.declared.object.Process.{Process}
 use Rattle.nomos_machine.proofs.NameLaws.{names-told}
 use Rattle.nomos_types.proofs.OccurrenceLaws.{count-here}
-use Rattle.nomos_index.specs.Telling.{DoesAt}
+use Rattle.nomos_index.specs.NameUses.{DoesAt}
 
 -- an object does this with a name, where the name is among those with which it does
 pub told-does : (does : Object → List ℕ) (objects : List Object) (number name : ℕ) (o : Object)

@@ -6,7 +6,7 @@ use Rattle.nomos_ir.specs.declared.ids.TypeId.{TypeId}
 use Rattle.nomos_machine.specs.Optional.{◌>>=◌}
 use Rattle.nomos_slots.specs.Cells.{Cell}
 use Rattle.nomos_slots.specs.Numbers.{IsAscending, numbers}
-use Rattle.nomos_slots.specs.Tables.{HaveSameNames}
+use Rattle.nomos_slots.specs.ChannelTables.{HaveSameNames}
 use Rattle.nomos_slots.specs.declared.numbered.Slot.{Slot}
 use Rattle.nomos_index.specs.Indexed.{AreMarkedTogether, Holding, IsHolding, held_marked, state_of}
 use Rattle.nomos_index.specs.Objects.{FitRows, AreHeld, ListRow, ValueRow}

@@ -27,7 +27,7 @@ use Rattle.nomos_deeds.specs.Readers.{IsLinearName, IsLinearType, IsTransaction,
 use Rattle.nomos_deeds.proofs.FireLaws.{looks-ready}
 use Rattle.nomos_deeds.proofs.LinearNameLaws.{looks-linear}
 use Rattle.nomos_deeds.proofs.LowestLaws.{finds-next, next-ready, over-each}
-use Rattle.nomos_index.specs.Walks.{is_acquiring, is_over, is_ready_in, is_transaction}
+use Rattle.nomos_index.specs.IndexWalks.{is_acquiring, is_over, is_ready_in, is_transaction}
 
 -- ---- tests
 

@@ -11,9 +11,9 @@ use Rattle.nomos_machine.specs.declared.object.Object.TheVariants as object
 use Rattle.nomos_deeds.specs.Readers.{stands_for}
 use Rattle.nomos_slots.specs.declared.numbered.Slot.{Slot}
 use Rattle.nomos_index.specs.Indexed.{Holding, standing_at}
-use Rattle.nomos_index.specs.Walks.{is_over, is_transaction}
-use Rattle.nomos_index.specs.declared.seeking.Sought.{Sought}
-use Rattle.nomos_index.specs.declared.seeking.Sought.TheVariants as sought
+use Rattle.nomos_index.specs.IndexWalks.{is_over, is_transaction}
+use Rattle.nomos_index.specs.declared.sought.Sought.{Sought}
+use Rattle.nomos_index.specs.declared.sought.Sought.TheVariants as sought
 
 -- whether an option has something that passes a test
 abbrev pub some_passes : {X : Type 0} → (X → Bool) → Option X → Bool

@@ -1,7 +1,7 @@
 -- All parts of the contents are marked, put back and given room together.
 use Rattle.std.specs.Prelude.{◌≡◌, ◌≤◌, ℕ, IsSome, Some, None}
 use Rattle.nomos_slots.specs.Cells.{name_in}
-use Rattle.nomos_slots.specs.Tables.{HaveSameNames}
+use Rattle.nomos_slots.specs.ChannelTables.{HaveSameNames}
 use Rattle.nomos_index.specs.Indexed.{Holding}
 use Rattle.nomos_index.specs.declared.inside.Columns.{Columns}
 

@@ -1,9 +1,9 @@
 //! The channels of a process are bound all at once.
 ghost use Rattle.std.specs.Prelude.{◌≡◌, ◌≤◌, ◌+◌, ℕ, OnErr, OnOk, length};
 ghost use Rattle.nomos_slots.specs.Cells.{name_in};
-ghost use Rattle.nomos_slots.specs.Tables.{HaveSameNames};
+ghost use Rattle.nomos_slots.specs.ChannelTables.{HaveSameNames};
 ghost use Rattle.nomos_parts.specs.SmallChanges.{Becomes, with_channels};
-ghost use Rattle.nomos_index.specs.Coming.{name_with};
+ghost use Rattle.nomos_index.specs.ObjectsCome.{name_with};
 
 use crate::inside::Inside;
 use crate::kept::{Kept, KeptProcess};

@@ -1,7 +1,7 @@
 //! The small changes of an indexed state, as acts are made of them.
 
 use crate::inside::Inside;
-use crate::reading;
+use crate::readings;
 use nomos_deeds::sight::{SeenMessage, SeenProcess};
 use nomos_ir::ids::{TypeId, VarId};
 use nomos_ir::value::Value;
@@ -29,19 +29,19 @@ impl Parts for Inside {
     }
 
     fn lists(&self, pid: u32) -> &[(VarId, PotentialList)] {
-        reading::lists(&self.contents, pid)
+        readings::lists(&self.contents, pid)
     }
 
     fn message(&self, number: u32) -> Option<SeenMessage> {
-        reading::message(&self.contents, number)
+        readings::message(&self.contents, number)
     }
 
     fn message_purse(&self, number: u32) -> u128 {
-        reading::message_purse(&self.contents, number)
+        readings::message_purse(&self.contents, number)
     }
 
     fn message_value(&self, alloc: Global, number: u32) -> Result<Option<Value>, AllocError> {
-        reading::message_value(alloc, &self.contents, number)
+        readings::message_value(alloc, &self.contents, number)
     }
 
     fn set_fields(&mut self, fields: SeenProcess) {

@@ -4,7 +4,7 @@ ghost use Rattle.nomos_parts.specs.SmallChanges.{bound_if, unbound_if};
 ghost use Rattle.nomos_slots.specs.Rows.{IsFree};
 
 use crate::copying::copy_lists;
-use crate::rows::{count_along, is_bound_at};
+use crate::value_rows::{count_along, is_bound_at};
 use nomos_ir::ids::VarId;
 use nomos_machine::object::PotentialList;
 use nomos_parts::pairs::place_of;

@@ -7,7 +7,7 @@ ghost use Rattle.nomos_index.specs.Objects.{types_of};
 ghost use Rattle.nomos_index.specs.Tidying.{tidied_at, tidied_of, tidied_slot, without_type};
 
 use crate::inside::{Columns, Inside};
-use crate::seeking::is_mentioned;
+use crate::sought::is_mentioned;
 use nomos_ir::ids::TypeId;
 
 // The name at a place has no type any more, where no object mentions it.

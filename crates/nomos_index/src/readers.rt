@@ -9,7 +9,7 @@ ghost use Rattle.nomos_machine.specs.State.{process_at};
 ghost use Rattle.nomos_machine.specs.TypedState.{IsTyped};
 
 use crate::inside::Inside;
-use crate::{reading, seeking, walking};
+use crate::{readings, sought, walking};
 use nomos_deeds::machine::View;
 use nomos_deeds::sight::Sight;
 use nomos_types::accepted::Accepted;
@@ -37,28 +37,28 @@ impl Inside {
     pub fn view(&self, pid: u32) -> Option<View>
         ensures { result ≡ option_map view_of (process_at self.now.state pid) }
     {
-        reading::view(&self.contents, pid)
+        readings::view(&self.contents, pid)
     }
 
     /// The shared name for which the process of this number waits, where it stands at `acquire`.
     pub fn waits(&self, accepted: &Accepted, pid: u32) -> Option<u32>
         ensures { result ≡ waits accepted.now self.now.state.objects pid }
     {
-        reading::waits(accepted, &self.contents, pid)
+        readings::waits(accepted, &self.contents, pid)
     }
 
     /// The number of the process that stands for a shared name.
     pub fn keeper(&self, shared: u32) -> Option<u32>
         ensures { result ≡ keeper self.now.state.objects shared }
     {
-        seeking::keeper(&self.contents, shared)
+        sought::keeper(&self.contents, shared)
     }
 
     /// The lowest process over a number that has mode T.
     pub fn next_transaction(&self, after: u32) -> Option<u32>
         ensures { FindsNext (IsTransaction self.now.state.objects) after result }
     {
-        seeking::next_transaction(&self.contents, after)
+        sought::next_transaction(&self.contents, after)
     }
 
     /// The lowest process over a number that stands at `acquire`.

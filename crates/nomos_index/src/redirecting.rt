@@ -12,7 +12,7 @@ ghost use Rattle.nomos_index.specs.Redirected.{redirected_at};
 use crate::inside::Inside;
 use crate::kept::{Kept, KeptMessage};
 use crate::looking::object_at;
-use crate::seeking::user;
+use crate::sought::user;
 use crate::span::rename_span;
 use nomos_deeds::sight::SeenPayload;
 use nomos_slots::column::Column;

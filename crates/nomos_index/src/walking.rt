@@ -8,17 +8,17 @@ ghost use Rattle.nomos_machine.specs.Run.{IsNextReady, NoneReady};
 ghost use Rattle.nomos_machine.specs.TypedState.{IsTyped};
 ghost use Rattle.nomos_index.specs.Indexed.{IsHolding, held_now, standing_at, state_of};
 ghost use Rattle.nomos_index.specs.Sought.{IsFirstName, IsFirstPlace, passes_at, some_passes, typed_at};
-ghost use Rattle.nomos_index.specs.Walks.{is_acquiring, is_over, is_owned_over, is_ready_in, purse_in};
+ghost use Rattle.nomos_index.specs.IndexWalks.{is_acquiring, is_over, is_owned_over, is_ready_in, purse_in};
 
 use crate::inside::Columns;
 use crate::kept::Kept;
 use crate::looking::kept_at;
-use crate::reading::acquires;
-use crate::seeking::number_in;
-use crate::starting::start_over;
+use crate::numbers_over::start_over;
+use crate::readings::acquires;
+use crate::sought::number_in;
 use nomos_deeds::deeds::looks_ready;
 use nomos_deeds::sight::Sight;
-use nomos_deeds::types::is_linear;
+use nomos_deeds::unfolded_types::is_linear;
 use nomos_ir::ids::TypeId;
 use nomos_types::accepted::Accepted;
 

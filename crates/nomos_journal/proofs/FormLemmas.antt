@@ -5,7 +5,7 @@ use Rattle.std.specs.Str.{bytes_eq}
 use Rattle.nomos_ir.specs.CodeForm.{form_name}
 use Rattle.nomos_ir.specs.declared.code_form.CodeForm.{CodeForm}
 use Rattle.nomos_ir.specs.declared.code_form.CodeForm.TheVariants as form
-use Rattle.nomos_texts.specs.Reading.{ReadsAs}
+use Rattle.nomos_texts.specs.ReadAs.{ReadsAs}
 use Rattle.nomos_texts.specs.Splitting.{Lacks}
 use Rattle.nomos_texts.proofs.NamingLaws.{ReadsAs-named}
 use Rattle.nomos_texts.proofs.OneTextLaws.{ReadsItself}

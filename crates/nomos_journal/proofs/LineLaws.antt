@@ -8,7 +8,7 @@ use Rattle.nomos_ir.specs.CodeForm.{form_name}
 use Rattle.nomos_ir.specs.declared.code_form.CodeForm.{CodeForm}
 use Rattle.nomos_legal.specs.declared.journal.End.{End}
 use Rattle.nomos_texts.specs.End.{end_text, IsEnd, HasLineBelow}
-use Rattle.nomos_texts.specs.Reading.{ReadsAs}
+use Rattle.nomos_texts.specs.ReadAs.{ReadsAs}
 use Rattle.nomos_texts.specs.Splitting.{Lacks, ComesApart}
 use Rattle.nomos_texts.proofs.LengthLaws.{length-decimal_64, length-end_text_line}
 use Rattle.nomos_texts.proofs.OneTextLaws.{ReadsItself, one_text, number_itself, end_itself}
@@ -19,7 +19,7 @@ use Rattle.nomos_journal.specs.Text.{lines_text}
 use Rattle.nomos_journal.specs.declared.line.JournalLine.{JournalLine}
 use Rattle.nomos_journal.specs.declared.line.JournalLine.TheVariants as line
 use Rattle.nomos_journal.specs.declared.line.Version.TheVariants as version
-use Rattle.nomos_journal.specs.mirror.Lines.{IsFiring, IsShortLine}
+use Rattle.nomos_journal.specs.mirror.JournalLineKinds.{IsFiring, IsShortLine}
 use Rattle.nomos_journal.proofs.FormLemmas.{form_itself, feedless_form, length-form_name, no_fifth_blank}
 use Rattle.nomos_journal.proofs.LineLemmas.{BeginsOtherwise, worked_parts, fired_parts, firing_first, worked_some, fired_some, pid_some, firing_reads, at_some, steps_some, head_reads, other_reads, short_reads, end_some}
 

@@ -9,7 +9,7 @@ use Rattle.nomos_ir.specs.declared.code_form.CodeForm.{CodeForm}
 use Rattle.nomos_legal.specs.declared.journal.End.{End}
 use Rattle.nomos_texts.specs.End.{end_text, IsEnd}
 use Rattle.nomos_texts.specs.Number.{ReadsBits}
-use Rattle.nomos_texts.specs.Reading.{ReadsAs}
+use Rattle.nomos_texts.specs.ReadAs.{ReadsAs}
 use Rattle.nomos_texts.specs.Splitting.{Lacks, ComesApart}
 use Rattle.nomos_texts.proofs.ReadingLaws.{ReadsAs-none}
 use Rattle.nomos_texts.proofs.SplittingLaws.{Lacks-apart, Lacks-decimal, ComesApart-parts}
@@ -18,7 +18,7 @@ use Rattle.nomos_journal.specs.declared.line.JournalLine.{JournalLine}
 use Rattle.nomos_journal.specs.declared.line.JournalLine.TheVariants as line
 use Rattle.nomos_journal.specs.declared.line.Version.{Version}
 use Rattle.nomos_journal.specs.declared.line.Version.TheVariants as version
-use Rattle.nomos_journal.specs.mirror.Lines.{IsFiredBy, IsFiring, IsShortLine, fired_text}
+use Rattle.nomos_journal.specs.mirror.JournalLineKinds.{IsFiredBy, IsFiring, IsShortLine, fired_text}
 use Rattle.nomos_journal.proofs.FormLemmas.{no_fifth_blank}
 
 -- ---- what a process fired

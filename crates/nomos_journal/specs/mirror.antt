@@ -1,3 +1,3 @@
 -- Mirrors of the code, on which no promise stands.
 pub mod Forms
-pub mod Lines
+pub mod JournalLineKinds

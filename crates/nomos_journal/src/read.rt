@@ -1,11 +1,11 @@
 //! How a line of a journal's text is read.
 
 ghost use Rattle.std.specs.Prelude.{◌≡◌, ℕ, IfOk};
-ghost use Rattle.nomos_texts.specs.Reading.{ReadsAs};
+ghost use Rattle.nomos_texts.specs.ReadAs.{ReadsAs};
 ghost use Rattle.nomos_journal.specs.Line.{line_text, IsLine};
-ghost use Rattle.nomos_journal.specs.mirror.Lines.{IsFiredBy, IsFiring, IsShortLine, fired_text};
+ghost use Rattle.nomos_journal.specs.mirror.JournalLineKinds.{IsFiredBy, IsFiring, IsShortLine, fired_text};
 
-use crate::form::read_gasless;
+use crate::form_names::read_gasless;
 use crate::line::{JournalLine, Version};
 use nomos_texts::end::read_end;
 use nomos_texts::number::{read_u32, read_u64};

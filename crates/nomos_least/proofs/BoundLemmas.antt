@@ -5,7 +5,7 @@ use Rattle.nomos_accept.proofs.JudgingLaws.{found-is_accepted, refuted-answer}
 use Rattle.nomos_accept.specs.AcceptedText.{IsProgramWith, IsRefused}
 use Rattle.nomos_accept.specs.TypedText.{IsReadAs}
 use Rattle.nomos_accept.specs.Preparing.{HasRows}
-use Rattle.nomos_accept.specs.declared.refusal.Why.TheVariants as why
+use Rattle.nomos_accept.specs.declared.why.Why.TheVariants as why
 use Rattle.nomos_forms.specs.Bounds.{IsFound}
 use Rattle.nomos_forms.specs.Linear.{form_value}
 use Rattle.nomos_forms.specs.Meeting.{MeetsRows}

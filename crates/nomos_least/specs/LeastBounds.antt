@@ -2,8 +2,8 @@
 use Rattle.std.specs.Prelude.{◌≡◌, ◌≤◌, ◌*◌, ℕ, List, Result, Ok, Err}
 use Rattle.nomos_accept.specs.AcceptedText.{AreRowsFor, IsProgramWith, IsRefused, found_amounts}
 use Rattle.nomos_accept.specs.TypedText.{IsTypedAs}
-use Rattle.nomos_accept.specs.declared.refusal.AcceptError.{AcceptError}
-use Rattle.nomos_accept.specs.declared.refusal.AcceptError.TheVariants as error
+use Rattle.nomos_accept.specs.declared.why.AcceptError.{AcceptError}
+use Rattle.nomos_accept.specs.declared.why.AcceptError.TheVariants as error
 use Rattle.nomos_forms.specs.Meeting.{MeetsRows}
 use Rattle.nomos_forms.specs.declared.row_list.RowList.{RowList}
 use Rattle.nomos_ir.specs.declared.lists.ProgramLists.{ProgramLists}

@@ -6,7 +6,7 @@ ghost use Rattle.nomos_forms.specs.Bounds.{IsForm};
 ghost use Rattle.nomos_ir.specs.Amounts.{star_count};
 ghost use Rattle.nomos_least.specs.Goal.{is_transaction, gains_declared, goal_of};
 
-use nomos_check::potential::Potential;
+use nomos_check::potential_form::PotentialForm;
 use nomos_forms::form::Form;
 use nomos_ir::declaration::ProcDecl;
 use nomos_ir::mode::Mode;
@@ -20,7 +20,7 @@ fn is_transaction(mode: Mode) -> bool
 }
 
 /// Adds what a declaration declares, where it is a transaction.
-fn gain_declared(sum: &mut Potential, declaration: &ProcDecl)
+fn gain_declared(sum: &mut PotentialForm, declaration: &ProcDecl)
     requires { HasRoom sum.old declaration.now.amount }
     ensures { (n : ℕ) (a : Account) → sum.old ≡ form_of n a → sum.new ≡ form_of n (gains_declared declaration.now a) }
 {
@@ -36,7 +36,7 @@ pub fn goal_of(alloc: Global, program: &Program) -> Result<Form, AllocError>
     ensures form { IfOk result (IsForm (star_count program.now)) }
     ensures coefs { IfOk result (λ goal. All (λ c. pos 0 ≤ℤ c) goal.coefs) }
 {
-    let mut sum = Potential::none(alloc, program.stars())?;
+    let mut sum = PotentialForm::none(alloc, program.stars())?;
     for declaration in program.lists().procs.as_slice() {
         gain_declared(&mut sum, declaration);
     }

@@ -13,7 +13,7 @@ use crate::goal::goal_of;
 use crate::showing::shows_least;
 use nomos_accept::accepting::{accepted, refuted};
 use nomos_accept::preparing::{Prepared, prepare};
-use nomos_accept::refusal::AcceptError;
+use nomos_accept::why::AcceptError;
 use nomos_forms::form::Form;
 use nomos_forms::found::Found;
 use nomos_forms::row_list::RowList;

@@ -7,7 +7,7 @@ use Rattle.indexmap.specs.IndexMap.{insert_entry}
 use Rattle.nomos_ir.specs.declared.ids.TypeId.{TypeId}
 use Rattle.nomos_types.specs.Acceptance.{Acceptance}
 use Rattle.nomos_types.specs.Equality.{EqualTypes}
-use Rattle.nomos_ledger.specs.mirror.Arguments.{IsAnswered}
+use Rattle.nomos_ledger.specs.mirror.StartArguments.{IsAnswered}
 
 module _ {K V : Type 0} (P : K × V → Type 0) where
   -- what is found was kept, beside a key that passes

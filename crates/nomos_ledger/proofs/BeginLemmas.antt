@@ -9,7 +9,7 @@ use Rattle.nomos_legal.proofs.StartLaws.{starts-named}
 use Rattle.nomos_legal.proofs.WorldLaws.{begun, begun-stands}
 use Rattle.nomos_ledger.specs.declared.fired.Fired.{Fired}
 use Rattle.nomos_ledger.specs.mirror.Books.{BooksState, IsUnderWay, origin_in}
-use Rattle.nomos_ledger.specs.mirror.Lines.{StartedBatch}
+use Rattle.nomos_ledger.specs.mirror.StartedLines.{StartedBatch}
 use Rattle.nomos_ledger.specs.mirror.Worlds.{world_of}
 
 -- The lines of a batch started in the books of a ledger that stands, which has so many contracts.

@@ -5,7 +5,7 @@ use Rattle.std.specs.Str.{bytes_eq}
 use Rattle.std.proofs.lemmas.Cmp.{nat_list_eq_equiv}
 use Rattle.std.proofs.lemmas.List.{map-append}
 use Rattle.nomos_legal.specs.Ledger.{shared_name}
-use Rattle.nomos_ledger.specs.mirror.Names.{contract_at}
+use Rattle.nomos_ledger.specs.mirror.ContractNames.{contract_at}
 
 module _ {X : Type 0} (text : X → List ℕ) (name : List ℕ) where
   -- the shared name of a contract stands beside the item whose text is its name

@@ -4,7 +4,7 @@ use Rattle.nomos_ir.specs.declared.ids.TypeId.{TypeId}
 use Rattle.nomos_ir.specs.declared.ids.VarId.{VarId}
 use Rattle.nomos_types.specs.Acceptance.{Acceptance}
 use Rattle.nomos_legal.specs.Ledger.{LedgerState}
-use Rattle.nomos_legal.specs.Starting.{ContractFits, ContractsFit, none, one}
+use Rattle.nomos_legal.specs.LineStarts.{ContractFits, ContractsFit, none, one}
 
 module _ (a : Acceptance) (l : LedgerState) where
   -- as many names as parameters

@@ -10,7 +10,7 @@ use Rattle.std.specs.List.{position_or_len}
 use Rattle.std.specs.Str.{bytes_eq}
 use Rattle.nomos_ir.specs.declared.declaration.ProcDecl.{ProcDecl}
 use Rattle.nomos_script.specs.declared.item.Start.{Start}
-use Rattle.nomos_legal.specs.Starting.{has_mode, is_wanted}
+use Rattle.nomos_legal.specs.LineStarts.{has_mode, is_wanted}
 
 -- ---- the first item that passes a test
 

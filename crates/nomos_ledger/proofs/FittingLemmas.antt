@@ -1,6 +1,6 @@
 -- Values that fit parameters, one by one.
 use Rattle.std.proofs.Common.{◌≡◌, ◌<◌, ◌↔◌, ℕ, zero, suc, List, [], ◌∷◌, length, drop, refl, sym, subst, arith}
-use Rattle.nomos_legal.specs.Starting.{OneEach, none, one}
+use Rattle.nomos_legal.specs.LineStarts.{OneEach, none, one}
 
 module _ {X Y : Type 0} (R : X → Y → Type 0) where
   -- no value fits a parameter that is left

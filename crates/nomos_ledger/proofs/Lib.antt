@@ -15,3 +15,5 @@ pub mod RunningLaws
 pub mod TransactionLemmas
 pub mod WorldLemmas
 pub mod WorthLemmas
+pub mod ReadyLaws
+pub mod StartLaws

@@ -10,13 +10,13 @@ use Rattle.nomos_legal.specs.Batch.{AllStart, OneRefuses, after_start, after_sta
 use Rattle.nomos_legal.specs.Batch as batch
 use Rattle.nomos_legal.specs.Ledger.{Contracts, IsLedger, LedgerState, shared_name}
 use Rattle.nomos_legal.specs.StandsFor.{IsSettled}
-use Rattle.nomos_legal.specs.Starting.{NameIsFree, Resolves}
+use Rattle.nomos_legal.specs.LineStarts.{NameIsFree, Resolves}
 use Rattle.nomos_legal.specs.declared.refusal.Refusal.{Refusal}
 use Rattle.nomos_legal.specs.declared.resolved.Resolved.{Resolved}
 use Rattle.nomos_legal.proofs.ResolveLaws.{resolved-by}
 use Rattle.nomos_legal.proofs.StartLaws.{after_starts-push, all_start-push, next-refuses, starts-counts, starts-length, starts-named, starts-settled}
 use Rattle.nomos_ledger.specs.mirror.Books.{BooksState}
-use Rattle.nomos_ledger.specs.mirror.Lines.{Extends, StartsAll, StartsLine, at_line}
+use Rattle.nomos_ledger.specs.mirror.StartedLines.{Extends, StartsAll, StartsLine, at_line}
 
 -- the name that a contract gets is free
 pub name-free : {a : Acceptance} {l : LedgerState} {start : Start} {r : Resolved} → Resolves a l start (Ok r)

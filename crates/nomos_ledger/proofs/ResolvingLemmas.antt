@@ -12,10 +12,10 @@ use Rattle.nomos_types.specs.Modes.{parameter_mode}
 use Rattle.nomos_types.proofs.ModeLaws.{parameter-has_mode}
 use Rattle.nomos_script.specs.declared.item.Start.{Start}
 use Rattle.nomos_legal.specs.Ledger.{LedgerState}
-use Rattle.nomos_legal.specs.Starting.{ArgumentsFit, IsDeclaration, IsPayer, Resolves, no_account, no_process, bad_arguments, name_taken, no_gas, starts, is_wanted, started_by}
+use Rattle.nomos_legal.specs.LineStarts.{ArgumentsFit, IsDeclaration, IsPayer, Resolves, no_account, no_process, bad_arguments, name_taken, no_gas, starts, is_wanted, started_by}
 use Rattle.nomos_legal.specs.declared.refusal.Refusal.{Refusal}
 use Rattle.nomos_legal.specs.declared.resolved.Resolved.{Resolved}
-use Rattle.nomos_ledger.specs.declared.resolving.Found.{Found}
+use Rattle.nomos_ledger.specs.declared.resolving.ResolvedLine.{ResolvedLine}
 use Rattle.nomos_ledger.specs.mirror.Resolving.{FindsDeclaration, FindsNames, FindsPayer, HaveModes, IfAnswered, PassesRest}
 
 -- the type of each channel parameter of a declaration has a mode
@@ -65,7 +65,7 @@ module _ (a : Acceptance) (l : LedgerState) (start : Start) where
 
       module _ (shared : List ℕ) (fits : ArgumentsFit a l start d shared) where
         -- who pays, and for what
-        abbrev pub these : Found
+        abbrev pub these : ResolvedLine
         these = record { payer = payer; proc = record { 0 = number } }
 
         -- the name is taken, or the payer has too little

@@ -1,7 +1,7 @@
-pub mod Arguments
+pub mod StartArguments
 pub mod Books
 pub mod Fired
-pub mod Lines
-pub mod Names
+pub mod StartedLines
+pub mod ContractNames
 pub mod Worlds
 pub mod Resolving

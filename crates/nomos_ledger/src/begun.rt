@@ -3,9 +3,9 @@ ghost use Rattle.std.specs.Prelude.{◌≡◌, ◌+◌, ◌<◌, ◌^◌, length
 ghost use Rattle.nomos_legal.specs.StandsFor.{StandsFor};
 ghost use Rattle.nomos_ledger.specs.Beginning.{Begins, BegunStandsFor};
 
-use crate::arguments::Arguments;
 use crate::fired::Fired;
 use crate::ledger::Ledger;
+use crate::start_arguments::Arguments;
 use crate::world::World;
 use nomos_deeds::undo::Undo;
 use nomos_ir::or_no_memory::OrNoMemory;

@@ -20,7 +20,7 @@ impl Model for ContractNames {
     ghost use Rattle.std.specs.Prelude.{All, map, string_bytes};
     ghost use Rattle.nomos_script.specs.ScriptNames.{IsScriptName};
     ghost use Rattle.nomos_legal.specs.Ledger.{Contracts};
-    ghost use Rattle.nomos_ledger.specs.mirror.Names.{contract_at};
+    ghost use Rattle.nomos_ledger.specs.mirror.ContractNames.{contract_at};
 
     ghost Value = { Contracts };
 

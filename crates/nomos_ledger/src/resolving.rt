@@ -5,16 +5,16 @@ ghost use Rattle.nomos_machine.specs.TypedState.{IsContractName};
 ghost use Rattle.nomos_types.specs.Modes.{HasMode};
 ghost use Rattle.nomos_legal.specs.Ledger.{IsLedger};
 ghost use Rattle.nomos_legal.specs.StandsFor.{IsSettled};
-ghost use Rattle.nomos_legal.specs.Starting.{ArgumentsFit, ContractFits, ContractsFit, IsPayer};
-ghost use Rattle.nomos_legal.specs.Starting.{Resolves, is_wanted, started_by};
+ghost use Rattle.nomos_legal.specs.LineStarts.{ArgumentsFit, ContractFits, ContractsFit, IsPayer};
+ghost use Rattle.nomos_legal.specs.LineStarts.{Resolves, is_wanted, started_by};
 ghost use Rattle.nomos_ledger.specs.mirror.Resolving.{FindsDeclaration, FindsNames, FindsPayer, FreesName};
 ghost use Rattle.nomos_ledger.specs.mirror.Resolving.{HasGas, HaveModes, IfAnswered, PassesRest};
 
 use crate::account_names::AccountNames;
-use crate::arguments::Arguments;
 use crate::books::Books;
 use crate::contract_names::ContractNames;
-use crate::fitting::values_fit;
+use crate::start_arguments::Arguments;
+use crate::value_fits::values_fit;
 use nomos_deeds::machine::Machine;
 use nomos_deeds::undo::Undo;
 use nomos_ir::declaration::ProcDecl;
@@ -30,7 +30,7 @@ use std::alloc::{AllocError, Global};
 
 /// Who pays for a line, and what it starts.
 #[derive(Clone, Copy)]
-struct Found {
+struct ResolvedLine {
     payer: u32,
     proc: ProcId,
 }
@@ -241,7 +241,7 @@ fn check_rest<M: Undo>(
     books: &Books<M>,
     accepted: &Accepted,
     start: &Start,
-    found: Found,
+    found: ResolvedLine,
 ) -> Result<(), OrNoMemory<Refusal>>
     requires payer { found.payer < length books.now.now.state.balances }
     requires proc { found.proc.0 < length accepted.now.program.procs }
@@ -258,7 +258,7 @@ fn resolve_found<M: Undo>(
     books: &Books<M>,
     arguments: &mut Arguments<'_>,
     start: &Start,
-    found: Found,
+    found: ResolvedLine,
 ) -> Result<Resolved, OrNoMemory<Refusal>>
     requires settled { IsSettled arguments.old books.now.now }
     requires ledger { IsLedger books.now.now }
@@ -288,5 +288,5 @@ pub(crate) fn resolve<M: Undo>(
 {
     let payer = payer_of(alloc, &books.accounts, start)?;
     let proc = declaration_of(alloc, arguments, start)?;
-    resolve_found(alloc, books, arguments, start, Found { payer, proc })
+    resolve_found(alloc, books, arguments, start, ResolvedLine { payer, proc })
 }

@@ -18,10 +18,10 @@ ghost use Rattle.nomos_legal.specs.StandsFor.{StandsFor, WorldStandsFor};
 ghost use Rattle.nomos_legal.specs.World.{IsWorld, committed};
 ghost use Rattle.nomos_ledger.specs.Calls.{FiresIn};
 
+use crate::at_rest::{has_transaction, is_quiet, lowered};
 use crate::books::Books;
 use crate::fired::Fired;
 use crate::ledger::Ledger;
-use crate::rest::{has_transaction, is_quiet, lowered};
 use nomos_deeds::fire::Fire;
 use nomos_deeds::undo::Undo;
 use nomos_eval::wanted::{Outcome, Wanted};

@@ -25,7 +25,7 @@ use Rattle.nomos_legal.specs.Ending.{GoesOn, HasTransaction, IsAllowed}
 use Rattle.nomos_legal.specs.Ledger.{LedgerState}
 use Rattle.nomos_legal.specs.Passage.{IsPassage, runs}
 use Rattle.nomos_legal.specs.Passage as passage
-use Rattle.nomos_legal.specs.Starting as line
+use Rattle.nomos_legal.specs.LineStarts as line
 use Rattle.nomos_legal.specs.declared.journal.End.TheVariants as end
 use Rattle.nomos_legal.specs.declared.resolved.Resolved.{Resolved}
 use Rattle.nomos_legal.proofs.Examples.{program, shops, exec, resolved, twice, c_fits, visit-starts}

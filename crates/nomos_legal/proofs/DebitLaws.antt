@@ -21,7 +21,7 @@ use Rattle.nomos_legal.specs.Legal.{firings_in}
 use Rattle.nomos_legal.specs.Passage.{Passage, IsPassage, still}
 use Rattle.nomos_legal.specs.Passage as passage
 use Rattle.nomos_legal.specs.StandsFor.{NamesBalances, IsSettled}
-use Rattle.nomos_legal.specs.Starting.{Resolves}
+use Rattle.nomos_legal.specs.LineStarts.{Resolves}
 use Rattle.nomos_legal.specs.declared.journal.End.{End}
 use Rattle.nomos_legal.specs.declared.journal.End.TheVariants as end
 use Rattle.nomos_legal.specs.declared.journal.Entry.{Entry}

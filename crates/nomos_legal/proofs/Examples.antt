@@ -32,8 +32,8 @@ use Rattle.nomos_legal.specs.Batch.{AllStart, OneRefuses, after_start, after_sta
 use Rattle.nomos_legal.specs.Batch as batch
 use Rattle.nomos_legal.specs.Ledger.{LedgerState, deposited, empty_ledger}
 use Rattle.nomos_legal.specs.Legal.{batch_limit}
-use Rattle.nomos_legal.specs.Starting.{OneEach, ValueFits, ContractFits, ContractsFit, Resolves}
-use Rattle.nomos_legal.specs.Starting as line
+use Rattle.nomos_legal.specs.LineStarts.{OneEach, ValueFits, ContractFits, ContractsFit, Resolves}
+use Rattle.nomos_legal.specs.LineStarts as line
 use Rattle.nomos_legal.specs.declared.refusal.Refusal.TheVariants as refusal
 use Rattle.nomos_legal.specs.declared.resolved.Resolved.{Resolved}
 

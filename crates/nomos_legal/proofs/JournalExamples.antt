@@ -17,8 +17,8 @@ use Rattle.nomos_legal.specs.Legal.{IsLegal, Leads, Tells, batch_limit, entries_
 use Rattle.nomos_legal.specs.Legal as legal
 use Rattle.nomos_legal.specs.Passage.{Passage, IsPassage, Undoes, bare, runs, still}
 use Rattle.nomos_legal.specs.Passage as passage
-use Rattle.nomos_legal.specs.Starting.{ContractsFit}
-use Rattle.nomos_legal.specs.Starting as line
+use Rattle.nomos_legal.specs.LineStarts.{ContractsFit}
+use Rattle.nomos_legal.specs.LineStarts as line
 use Rattle.nomos_legal.specs.declared.journal.End.{End}
 use Rattle.nomos_legal.specs.declared.journal.End.TheVariants as end
 use Rattle.nomos_legal.specs.declared.journal.Entry.{Entry}

@@ -9,7 +9,7 @@ use Rattle.std.proofs.lemmas.Slice.Eq.{bytes_eq-Decides}
 use Rattle.nomos_machine.specs.State.{State}
 use Rattle.nomos_legal.specs.Batch.{named}
 use Rattle.nomos_legal.specs.Ledger.{AreNamed, Contracts, IsLedger, LedgerState, account_of, accounts_with, deposited, shared_name, state_with}
-use Rattle.nomos_legal.specs.Starting.{NameIsFree}
+use Rattle.nomos_legal.specs.LineStarts.{NameIsFree}
 
 -- ---- accounts
 

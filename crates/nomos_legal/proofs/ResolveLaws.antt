@@ -24,8 +24,8 @@ use Rattle.nomos_machine.specs.State.{State}
 use Rattle.nomos_machine.specs.TypedState.{IsContractName}
 use Rattle.nomos_script.specs.declared.item.Start.{Start}
 use Rattle.nomos_legal.specs.Ledger.{Contracts, LedgerState, IsLedger, shared_name}
-use Rattle.nomos_legal.specs.Starting.{OneEach, ValueFits, ContractFits, ContractsFit, ArgumentsFit, IsPayer, IsDeclaration, NameIsFree, Resolves, started_by, has_mode, is_wanted}
-use Rattle.nomos_legal.specs.Starting as line
+use Rattle.nomos_legal.specs.LineStarts.{OneEach, ValueFits, ContractFits, ContractsFit, ArgumentsFit, IsPayer, IsDeclaration, NameIsFree, Resolves, started_by, has_mode, is_wanted}
+use Rattle.nomos_legal.specs.LineStarts as line
 use Rattle.nomos_legal.specs.StandsFor.{NamesBalances, IsSettled}
 use Rattle.nomos_legal.specs.declared.resolved.Resolved.{Resolved}
 use Rattle.nomos_legal.proofs.SettledLaws.{account-within}

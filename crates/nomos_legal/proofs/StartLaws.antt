@@ -26,7 +26,7 @@ use Rattle.nomos_script.specs.declared.item.Start.{Start}
 use Rattle.nomos_legal.specs.Batch.{AllStart, OneRefuses, after_start, after_starts, named, state_or}
 use Rattle.nomos_legal.specs.Batch as batch
 use Rattle.nomos_legal.specs.Ledger.{LedgerState, IsLedger}
-use Rattle.nomos_legal.specs.Starting.{NameIsFree, Resolves}
+use Rattle.nomos_legal.specs.LineStarts.{NameIsFree, Resolves}
 use Rattle.nomos_legal.specs.StandsFor.{NamesBalances, IsSettled}
 use Rattle.nomos_legal.specs.declared.refusal.Refusal.{Refusal}
 use Rattle.nomos_legal.specs.declared.resolved.Resolved.{Resolved}

@@ -22,8 +22,8 @@ use Rattle.nomos_legal.specs.Legal.{Leads, TellsFrom, batch_limit, entries_of, f
 use Rattle.nomos_legal.specs.Legal as legal
 use Rattle.nomos_legal.specs.Passage.{Passage, IsPassage, RunsTo, Undoes, bare, runs, still}
 use Rattle.nomos_legal.specs.Passage as passage
-use Rattle.nomos_legal.specs.Starting.{ContractFits, ContractsFit, ArgumentsFit, IsPayer, IsDeclaration, NameIsFree, Resolves, is_wanted, started_by}
-use Rattle.nomos_legal.specs.Starting as line
+use Rattle.nomos_legal.specs.LineStarts.{ContractFits, ContractsFit, ArgumentsFit, IsPayer, IsDeclaration, NameIsFree, Resolves, is_wanted, started_by}
+use Rattle.nomos_legal.specs.LineStarts as line
 use Rattle.nomos_legal.specs.declared.journal.End.{End}
 use Rattle.nomos_legal.specs.declared.journal.End.TheVariants as end
 use Rattle.nomos_legal.specs.declared.journal.Entry.{Entry}

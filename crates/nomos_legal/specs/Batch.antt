@@ -5,7 +5,7 @@ use Rattle.nomos_machine.specs.Starting.{started_with}
 use Rattle.nomos_machine.specs.State.{State}
 use Rattle.nomos_script.specs.declared.item.Start.{Start}
 use Rattle.nomos_legal.specs.Ledger.{Contracts, LedgerState}
-use Rattle.nomos_legal.specs.Starting.{Resolves}
+use Rattle.nomos_legal.specs.LineStarts.{Resolves}
 use Rattle.nomos_legal.specs.declared.refusal.Refusal.{Refusal}
 use Rattle.nomos_legal.specs.declared.resolved.Resolved.{Resolved}
 

@@ -1,5 +1,5 @@
 pub mod Ledger
-pub mod Starting
+pub mod LineStarts
 pub mod Batch
 pub mod Ending
 pub mod World

@@ -23,4 +23,4 @@ pub struct Resolved {
 pub type ResolvedStarts = Items<Resolved>;
 
 /// The instructions that were fired, in order of the firings.
-pub type Places = Items<CodeId>;
+pub type FiredPlaces = Items<CodeId>;

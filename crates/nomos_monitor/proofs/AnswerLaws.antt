@@ -6,14 +6,14 @@ use Rattle.nomos_types.specs.Amount.{dths}
 use Rattle.nomos_machine.specs.Opening.{IsOpenerNamed}
 use Rattle.nomos_machine.specs.State.{State}
 use Rattle.nomos_machine.proofs.OpeningLaws.{one-opener}
-use Rattle.nomos_sync.specs.Carrying.{CarriesChannel}
+use Rattle.nomos_equality.specs.Carriers.{CarriesChannel}
 use Rattle.nomos_monitor.proofs.OnceLaws.{opens-once}
 use Rattle.nomos_monitor.specs.Opened.{IsOpenedSo, IsRefusedSo, OpensTo}
 use Rattle.nomos_monitor.specs.declared.outside_talk.TalkOpening.{TalkOpening}
 use Rattle.nomos_monitor.specs.declared.outside_talk.TalkOpening.TheVariants as opening
-use Rattle.nomos_monitor.specs.Opening.{IsTalkRefused, OpensNamed, no_account, no_process, carries, no_gas}
-use Rattle.nomos_monitor.specs.declared.refusal.TalkRefusal.{TalkRefusal}
-use Rattle.nomos_monitor.specs.declared.refusal.TalkRefusal.TheVariants as refusal
+use Rattle.nomos_monitor.specs.TalkOpening.{IsTalkRefused, OpensNamed, no_account, no_process, carries, no_gas}
+use Rattle.nomos_monitor.specs.declared.talk_refusal.TalkRefusal.{TalkRefusal}
+use Rattle.nomos_monitor.specs.declared.talk_refusal.TalkRefusal.TheVariants as refusal
 
 module _ {a : Acceptance} (accepted : IsAccepted a) {s : State} {name : List ℕ} {account : ℕ} where
   -- a refusal has one cause

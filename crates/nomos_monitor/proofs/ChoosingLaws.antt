@@ -13,9 +13,9 @@ use Rattle.nomos_types.specs.Acceptance.{Acceptance, IsAccepted}
 use Rattle.nomos_types.specs.Amount.{dths}
 use Rattle.nomos_machine.specs.Opening.{IsOpenerNamed}
 use Rattle.nomos_machine.specs.State.{State}
-use Rattle.nomos_sync.specs.Carrying.{CarriesChannel, CarriesNothing}
-use Rattle.nomos_monitor.specs.Opening.{CanOpenBy, HasOpener, IsTalkRefused, no_account, no_process, carries, no_gas}
-use Rattle.nomos_monitor.specs.declared.refusal.TalkRefusal.TheVariants as refusal
+use Rattle.nomos_equality.specs.Carriers.{CarriesChannel, CarriesNothing}
+use Rattle.nomos_monitor.specs.TalkOpening.{CanOpenBy, HasOpener, IsTalkRefused, no_account, no_process, carries, no_gas}
+use Rattle.nomos_monitor.specs.declared.talk_refusal.TalkRefusal.TheVariants as refusal
 
 one-declaration : {d e : ProcDecl} → Some d ≡ Some e → d ≡ e
 one-declaration is = cc

@@ -15,10 +15,10 @@ use Rattle.nomos_machine.proofs.HearingLaws.{hearing-once}
 use Rattle.nomos_machine.proofs.OpeningLaws.{one-opener}
 use Rattle.nomos_machine.proofs.RestLaws.{rest-once}
 use Rattle.nomos_machine.proofs.SayingLaws.{says-once}
-use Rattle.nomos_monitor.specs.Answers.{AnswersSaying, IsSameSaying, IsUnsaid}
-use Rattle.nomos_monitor.specs.Opening.{OpensNamed}
-use Rattle.nomos_monitor.specs.declared.refusal.SayError.{SayError}
-use Rattle.nomos_monitor.specs.declared.refusal.SayError.TheVariants as error
+use Rattle.nomos_monitor.specs.SayAnswers.{AnswersSaying, IsSameSaying, IsUnsaid}
+use Rattle.nomos_monitor.specs.TalkOpening.{OpensNamed}
+use Rattle.nomos_monitor.specs.declared.talk_refusal.SayError.{SayError}
+use Rattle.nomos_monitor.specs.declared.talk_refusal.SayError.TheVariants as error
 use Rattle.nomos_monitor.specs.declared.rested.Rested.{Rested}
 
 module _ (a : Acceptance) (s : State) (account : ℕ) (what : Said) where

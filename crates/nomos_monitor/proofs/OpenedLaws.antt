@@ -6,11 +6,11 @@ use Rattle.nomos_machine.specs.Opening.{OpensTalk}
 use Rattle.nomos_machine.specs.Run.{IsQuiet}
 use Rattle.nomos_machine.specs.State.{State, gas_of}
 use Rattle.nomos_machine.specs.TypedState.{IsTyped}
-use Rattle.nomos_sync.specs.Carrying.{CarriesNothing}
+use Rattle.nomos_equality.specs.Carriers.{CarriesNothing}
 use Rattle.nomos_wake.specs.Covering.{Covers, IsFollowed, IsNoted, MayBeReady}
 use Rattle.nomos_wake.specs.declared.awake.Awake.{Awake}
 use Rattle.nomos_wake.proofs.BeginLaws.{begun-covers}
-use Rattle.nomos_monitor.specs.Opening.{CanOpenBy, OpensNamed}
+use Rattle.nomos_monitor.specs.TalkOpening.{CanOpenBy, OpensNamed}
 use Rattle.nomos_monitor.specs.Talks.{IsTalk}
 use Rattle.nomos_monitor.proofs.TalkingLaws.{opens-talk}
 use Rattle.nomos_monitor.proofs.WakingLaws.{opened-grown}

@@ -31,8 +31,8 @@ use Rattle.nomos_machine.proofs.PlainLaws.{IsForward, IsMadeAt, plain, forward, 
 use Rattle.nomos_machine.proofs.PreservationLaws.{process_at-there}
 use Rattle.nomos_machine.proofs.ProcessLaws.{own_judgement, place-is_judgement}
 use Rattle.nomos_machine.proofs.RenameLaws.{renamed-old, renamed-other}
-use Rattle.nomos_sync.specs.Carrying.{CarriesNothing}
-use Rattle.nomos_sync.proofs.CarryLaws.{carries-nothing-equal}
+use Rattle.nomos_equality.specs.Carriers.{CarriesNothing}
+use Rattle.nomos_equality.proofs.CarryLaws.{carries-nothing-equal}
 use Rattle.nomos_monitor.specs.Talks.{SpeaksAlone}
 
 module _ {a : Acceptance} (accepted : IsAccepted a) {s : State} (typed : IsTyped a s) (alone : SpeaksAlone a s) where

@@ -9,8 +9,8 @@ use Rattle.nomos_machine.proofs.HearingLaws.{hearing-once}
 use Rattle.nomos_machine.proofs.RestLaws.{rest-once}
 use Rattle.nomos_machine.proofs.SayingLaws.{says-once}
 use Rattle.nomos_monitor.specs.TalkCourse.{PartyTurn, TalkReply, TalkGoesOn, HoldsTalk, IsStopped, opened, refused, said, unsaid, heard, stopped, done, hears, says, stops, leaves, is_refused, goes_on, is_stopped}
-use Rattle.nomos_monitor.specs.declared.refusal.SayError.{SayError}
-use Rattle.nomos_monitor.specs.declared.refusal.TalkRefusal.{TalkRefusal}
+use Rattle.nomos_monitor.specs.declared.talk_refusal.SayError.{SayError}
+use Rattle.nomos_monitor.specs.declared.talk_refusal.TalkRefusal.{TalkRefusal}
 use Rattle.nomos_monitor.proofs.AnswerLaws.{one-refusal, refused-not_opened}
 use Rattle.nomos_monitor.proofs.OnceLaws.{opens-once, unsaid-not_said, unsaid-once}
 

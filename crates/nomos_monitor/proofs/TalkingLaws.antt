@@ -27,8 +27,8 @@ use Rattle.nomos_machine.proofs.OpeningLaws.{opens-name, opens-type}
 use Rattle.nomos_machine.proofs.OutsideTalkLaws.{GoesOnOutside, fires-party, hears-party, opens-party, says-party}
 use Rattle.nomos_machine.proofs.SayingLaws.{said-name, said-type}
 use Rattle.nomos_machine.proofs.TalkLaws.{brings-continues}
-use Rattle.nomos_sync.specs.Carrying.{IsCarrier, CarriesNothing}
-use Rattle.nomos_sync.proofs.CarryLaws.{carries-continues, carries-here, carries-nothing-equal}
+use Rattle.nomos_equality.specs.Carriers.{IsCarrier, CarriesNothing}
+use Rattle.nomos_equality.proofs.CarryLaws.{carries-continues, carries-here, carries-nothing-equal}
 use Rattle.nomos_monitor.specs.Talks.{IsTalk, SpeaksAlone}
 use Rattle.nomos_monitor.proofs.SilentLaws.{step-alone}
 

@@ -23,7 +23,7 @@ use Rattle.nomos_machine.proofs.NameLaws.{type_of-below}
 use Rattle.nomos_machine.proofs.SectionLaws.{offering-found}
 use Rattle.nomos_machine.proofs.PutLaws.{contains-one, put-all, put-kept}
 use Rattle.nomos_machine.proofs.HearingLaws.{message-read_outside}
-use Rattle.nomos_wake.specs.Beginning.{HasGrown, IsNewIn}
+use Rattle.nomos_wake.specs.ProcessesCome.{HasGrown, IsNewIn}
 use Rattle.nomos_wake.specs.Covering.{Covers}
 use Rattle.nomos_wake.specs.declared.awake.Awake.{Awake}
 use Rattle.nomos_wake.proofs.CoverLaws.{spoken-covers}

@@ -1,6 +1,6 @@
 pub mod Talks
 pub mod Watching
 pub mod Opened
-pub mod Opening
-pub mod Answers
+pub mod TalkOpening
+pub mod SayAnswers
 pub mod TalkCourse

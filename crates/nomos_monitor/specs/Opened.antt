@@ -2,9 +2,9 @@
 use Rattle.std.specs.Prelude.{◌≡◌, ℕ, List, Option, None}
 use Rattle.nomos_types.specs.Acceptance.{Acceptance}
 use Rattle.nomos_machine.specs.State.{State}
-use Rattle.nomos_monitor.specs.Opening.{IsTalkRefused, OpensNamed}
+use Rattle.nomos_monitor.specs.TalkOpening.{IsTalkRefused, OpensNamed}
 use Rattle.nomos_monitor.specs.declared.outside_talk.TalkOpening.{TalkOpening}
-use Rattle.nomos_monitor.specs.declared.refusal.TalkRefusal.{TalkRefusal}
+use Rattle.nomos_monitor.specs.declared.talk_refusal.TalkRefusal.{TalkRefusal}
 use Rattle.nomos_monitor.specs.declared.outside_talk.TalkOpening.TheVariants as opening
 
 -- A talk of the program and the account, in the state that comes of the opening; or the machine, whose state is as it

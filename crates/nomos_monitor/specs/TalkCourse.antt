@@ -9,10 +9,10 @@ use Rattle.nomos_machine.specs.declared.object.Heard.{Heard}
 use Rattle.nomos_machine.specs.declared.object.Said.{Said}
 use Rattle.nomos_machine.specs.declared.rest.Rest.{Rest}
 use Rattle.nomos_machine.specs.declared.rest.Rest.TheVariants as rest
-use Rattle.nomos_monitor.specs.Answers.{IsUnsaid}
-use Rattle.nomos_monitor.specs.Opening.{IsTalkRefused, OpensNamed}
-use Rattle.nomos_monitor.specs.declared.refusal.SayError.{SayError}
-use Rattle.nomos_monitor.specs.declared.refusal.TalkRefusal.{TalkRefusal}
+use Rattle.nomos_monitor.specs.SayAnswers.{IsUnsaid}
+use Rattle.nomos_monitor.specs.TalkOpening.{IsTalkRefused, OpensNamed}
+use Rattle.nomos_monitor.specs.declared.talk_refusal.SayError.{SayError}
+use Rattle.nomos_monitor.specs.declared.talk_refusal.TalkRefusal.{TalkRefusal}
 
 -- what a party does: it says this, or it listens
 pub data PartyTurn : Type 0 where

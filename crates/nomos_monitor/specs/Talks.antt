@@ -4,7 +4,7 @@
 use Rattle.std.specs.Prelude.{◌≡◌, ◌<◌, ◌≤◌, ◌^◌, ℕ, List, Bool, false, length, Option, Some, None}
 use Rattle.nomos_ir.specs.declared.ids.TypeId.{TypeId}
 use Rattle.nomos_types.specs.Acceptance.{Acceptance}
-use Rattle.nomos_sync.specs.Carrying.{CarriesNothing}
+use Rattle.nomos_equality.specs.Carriers.{CarriesNothing}
 use Rattle.nomos_machine.specs.Opening.{outside_name}
 use Rattle.nomos_machine.specs.OutsideTalk.{HasOutsideParty, IsOutsideBy, TalksTo, is_closed}
 use Rattle.nomos_machine.specs.Policies.{IsRunOf}

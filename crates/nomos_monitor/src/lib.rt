@@ -3,6 +3,6 @@
 
 mod opener;
 pub mod outside_talk;
-pub mod refusal;
 pub mod rested;
 mod running;
+pub mod talk_refusal;

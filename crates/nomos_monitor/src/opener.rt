@@ -1,14 +1,14 @@
 //! With which declaration a talk is opened, and why one is not.
 ghost use Rattle.std.specs.Prelude.{◌≡◌, ◌↔◌, [], IfOk, IsTrue};
 ghost use Rattle.nomos_ir.specs.declared.mode.Mode.TheVariants as mode;
-ghost use Rattle.nomos_monitor.specs.Opening.{ChoosesBy, IsFoundBy};
+ghost use Rattle.nomos_monitor.specs.TalkOpening.{ChoosesBy, IsFoundBy};
 
-use crate::refusal::TalkRefusal;
+use crate::talk_refusal::TalkRefusal;
 use nomos_deeds::talking::Talking;
+use nomos_equality::carriers::carries;
 use nomos_ir::declaration::ProcDecl;
 use nomos_ir::ids::ProcId;
 use nomos_ir::mode::Mode;
-use nomos_sync::carrying::carries;
 use nomos_types::accepted::Accepted;
 use std::alloc::{AllocError, Global};
 

@@ -2,13 +2,13 @@
 ghost use Rattle.std.specs.Prelude.{◌≡◌};
 
 use crate::answers::{push_heard, push_refusal, push_rest, push_said, push_word};
-use crate::opening::{Party, accepted_of, opening};
+use crate::opening::{TestParty, accepted_of, opening};
 use nomos_deeds::talking::Talking;
 use nomos_ir::ids::Label;
 use nomos_machine::object::{Heard, Said};
 use nomos_machine::rest::Rest;
 use nomos_monitor::outside_talk::{OutsideTalk, TalkOpening};
-use nomos_monitor::refusal::SayError;
+use nomos_monitor::talk_refusal::SayError;
 use nomos_named::indexed::IndexedState;
 use nomos_script::talk_line::{TalkLine, TalkLines};
 use nomos_script::talk_parsing::parse_talk;
@@ -22,7 +22,7 @@ const FAR: u32 = 1_000_000_000;
 
 // What may be seen of a state from outside.
 #[derive(Clone, Copy, PartialEq, Eq)]
-struct Look {
+struct Glance {
     outside: Option<u32>,
     balance: Option<u128>,
     next_object: u32,
@@ -30,11 +30,11 @@ struct Look {
 }
 
 // One look at a state.
-fn look_at<M: Talking>(machine: &M) -> Look
+fn look_at<M: Talking>(machine: &M) -> Glance
     ensures object { result.next_object ≡ (M.state machine.now).next_object }
     ensures name { result.next_name ≡ (M.state machine.now).next_name }
 {
-    Look {
+    Glance {
         outside: machine.outside(),
         balance: machine.balance(0),
         next_object: machine.next_object(),
@@ -44,14 +44,14 @@ fn look_at<M: Talking>(machine: &M) -> Look
 
 // A talk that is held, how many firings are left to it, and what was told of it so far.
 #[derive(Drop)]
-struct HeldTalk<'a, M: Talking + Drop> {
+struct TestTalk<'a, M: Talking + Drop> {
     accepted: &'a Accepted,
     talk: OutsideTalk<'a, M>,
     left: u32,
     told: Vec<u8>,
 }
 
-impl<'a, M: Talking + Drop> HeldTalk<'a, M> {
+impl<'a, M: Talking + Drop> TestTalk<'a, M> {
     // Says something. Where memory is wanting nothing may have changed, and it is said once more.
     fn say<R: Abort + AllocGlobal>(&mut self, rt: &R, said: &Said) -> Result<(), SayError> {
         let before = look_at(self.talk.state());
@@ -207,7 +207,7 @@ fn told_of<M: Talking + Drop, R: Abort + AllocGlobal>(
     let mut told = Vec::new(rt.alloc());
     match opened {
         TalkOpening::Talk(talk) => {
-            let mut held = HeldTalk {
+            let mut held = TestTalk {
                 accepted,
                 talk,
                 left: firings,
@@ -228,7 +228,7 @@ fn told_of<M: Talking + Drop, R: Abort + AllocGlobal>(
 pub(crate) fn tell<R: Abort + AllocGlobal>(
     rt: &R,
     contract: &str,
-    party: Party<'_>,
+    party: TestParty<'_>,
     talk: &str,
     firings: u32,
 ) -> Vec<u8> {

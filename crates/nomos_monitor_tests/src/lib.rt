@@ -4,7 +4,7 @@
 #[cfg(test)]
 mod answers;
 #[cfg(test)]
-mod contracts;
+mod held_tests;
 #[cfg(test)]
 mod holding;
 #[cfg(test)]
@@ -12,4 +12,4 @@ mod opening;
 #[cfg(test)]
 mod opening_tests;
 #[cfg(test)]
-mod talk_tests;
+mod talk_contracts;

@@ -11,7 +11,7 @@ use std::process::Abort;
 /// With whom a talk is opened: how many Dths the one account has, whose number is 0; the declaration; and the number of
 /// the party's account.
 #[derive(Clone, Copy)]
-pub(crate) struct Party<'a> {
+pub(crate) struct TestParty<'a> {
     pub(crate) dths: u64,
     pub(crate) proc: &'a str,
     pub(crate) account: u32,
@@ -47,7 +47,7 @@ fn machine_with<M: Talking + Drop, R: Abort + AllocGlobal>(
 pub(crate) fn opening<'a, M: Talking + Drop, R: Abort + AllocGlobal>(
     rt: &R,
     accepted: &'a Accepted,
-    party: Party<'_>,
+    party: TestParty<'_>,
 ) -> TalkOpening<'a, M> {
     let machine: M = machine_with(rt, accepted, party.dths);
     let before = machine.balance(0);

@@ -1,8 +1,8 @@
 //! Tests: why talks are not opened.
 
-use crate::contracts::{COINS, GATE, HALVES};
 use crate::holding::tell;
-use crate::opening::Party;
+use crate::opening::TestParty;
+use crate::talk_contracts::{COINS, GATE, HALVES};
 use std::test::Fail;
 
 // A contract, the Dths of account 0, the declaration, the number of the party's account, and what is told of a talk
@@ -23,7 +23,7 @@ const OPENINGS: [(&str, u64, &str, u32, &str); 10] = [
 #[test]
 fn refusals_come_in_their_order(rt: HostRuntime) -> Result<(), Fail> {
     for (contract, dths, proc, account, told) in OPENINGS {
-        let party = Party {
+        let party = TestParty {
             dths,
             proc,
             account,

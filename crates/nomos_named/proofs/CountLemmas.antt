@@ -7,24 +7,24 @@ use Rattle.nomos_machine.specs.declared.object.Process.{Process}
 use Rattle.nomos_tally.specs.Moving.{Moves}
 use Rattle.nomos_tally.specs.Tallying.{channels_used, nothing, only}
 use Rattle.nomos_tally.specs.declared.tallies.Tallies.{Tallies}
-use Rattle.nomos_tally.specs.declared.tally.Doing.{Doing}
-use Rattle.nomos_tally.specs.declared.tally.Doing.TheVariants as doing
+use Rattle.nomos_tally.specs.declared.tally.NameUse.{NameUse}
+use Rattle.nomos_tally.specs.declared.tally.NameUse.TheVariants as doing
 use Rattle.nomos_tally.proofs.MoveLaws.{moves-both, moves-still}
 use Rattle.nomos_named.proofs.SpanLemmas.{names-all, names-step, names_from}
 
 -- what is done by so many variables from the lowest on
-abbrev pub so_far : ℕ → ℕ → Process → Doing → List ℕ
+abbrev pub so_far : ℕ → ℕ → Process → NameUse → List ℕ
 so_far low k p d = only doing.Uses (names_from low p.channels k) d
 
 module _ (low : ℕ) (p : Process) where
   -- by no variable nothing is done
-  pub none-far : (d : Doing) (n : ℕ) → count_of n (so_far low 0 p d) ≡ 0
+  pub none-far : (d : NameUse) (n : ℕ) → count_of n (so_far low 0 p d) ≡ 0
   none-far doing.Provides n = refl
   none-far doing.Uses n = refl
   none-far doing.Bases n = refl
 
   -- one variable more
-  so_far-step : (v : ℕ) (name : Option ℕ) → low ≤ v → name ≡ bound_to v p.channels → (d : Doing) (n : ℕ)
+  so_far-step : (v : ℕ) (name : Option ℕ) → low ≤ v → name ≡ bound_to v p.channels → (d : NameUse) (n : ℕ)
       → count_of n (so_far low (v + 1 - low) p d)
       ≡ count_of n (so_far low (v - low) p d) + count_of n (only doing.Uses (option_to_list name) d)
   so_far-step v name above is doing.Provides n = refl
@@ -35,7 +35,7 @@ module _ (low : ℕ) (p : Process) where
 
   -- and all are there at last
   so_far-all : (k : ℕ) → (0 < k → IsAscending p.channels)
-      → ((v : ℕ) → IsSome (bound_to v p.channels) → (low ≤ v) × (v < low + k)) → (d : Doing) (n : ℕ)
+      → ((v : ℕ) → IsSome (bound_to v p.channels) → (low ≤ v) × (v < low + k)) → (d : NameUse) (n : ℕ)
       → count_of n (so_far low k p d) ≡ count_of n (channels_used p d)
   so_far-all k ascending within doing.Provides n = refl
   so_far-all k ascending within doing.Uses n = names-all low k n p.channels ascending within
@@ -51,7 +51,7 @@ module _ (low : ℕ) (p : Process) where
         nothing (so_far low (v + 1 - low) p) one other
         (λ d n. omega (arith, so_far-step v name above is d n, none d n))
       where
-        none : (d : Doing) (n : ℕ) → count_of n (only doing.Uses [] d) ≡ 0
+        none : (d : NameUse) (n : ℕ) → count_of n (only doing.Uses [] d) ≡ 0
         none doing.Provides n = refl
         none doing.Uses n = refl
         none doing.Bases n = refl
@@ -65,7 +65,7 @@ module _ (low : ℕ) (p : Process) where
         (so_far low (v + 1 - low) p) nothing one other
         (λ d n. omega (arith, so_far-step v name above is d n, none d n))
       where
-        none : (d : Doing) (n : ℕ) → count_of n (only doing.Uses [] d) ≡ 0
+        none : (d : NameUse) (n : ℕ) → count_of n (only doing.Uses [] d) ≡ 0
         none doing.Provides n = refl
         none doing.Uses n = refl
         none doing.Bases n = refl

@@ -9,7 +9,7 @@ use Rattle.nomos_ir.specs.declared.mode.Mode.{Mode}
 use Rattle.nomos_ir.specs.declared.mode.Mode.TheVariants as mode
 use Rattle.nomos_types.proofs.OccurrenceLaws.{count-append, count-here}
 use Rattle.nomos_deeds.specs.Readers.{keeper, stands_for}
-use Rattle.nomos_deeds.specs.Seen.{seen_message, seen_process}
+use Rattle.nomos_deeds.specs.SeenObjects.{seen_message, seen_process}
 use Rattle.nomos_machine.specs.Objects.{carried, message_of, object_at, object_number, process_of, shared_of, times, used}
 use Rattle.nomos_machine.specs.Sight.{is_offered, is_read_on, message_on, offering, owner, same_way, user_of}
 use Rattle.nomos_machine.specs.State.{State}
@@ -18,11 +18,11 @@ use Rattle.nomos_machine.specs.declared.object.Object.TheVariants as object
 use Rattle.nomos_machine.specs.declared.object.Process.{Process}
 use Rattle.nomos_machine.proofs.NameLaws.{names-told}
 use Rattle.nomos_machine.proofs.PutLaws.{object_at-found}
-use Rattle.nomos_index.specs.Telling.{DoesAt}
+use Rattle.nomos_index.specs.NameUses.{DoesAt}
 use Rattle.nomos_tally.specs.Tallying.{names_of}
-use Rattle.nomos_tally.specs.declared.tally.Doing.TheVariants as doing
+use Rattle.nomos_tally.specs.declared.tally.NameUse.TheVariants as doing
 use Rattle.nomos_tally.proofs.CountLaws.{find-none, find-one}
-use Rattle.nomos_named.specs.Finding.{doing_of}
+use Rattle.nomos_named.specs.NameFinding.{doing_of}
 
 -- ---- who passes a test does it
 

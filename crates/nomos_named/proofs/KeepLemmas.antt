@@ -28,8 +28,8 @@ use Rattle.nomos_tally.specs.Moving.{Moves}
 use Rattle.nomos_tally.specs.Suspecting.{IsSuspectIfIdle, KeepsSuspects}
 use Rattle.nomos_tally.specs.Tallying.{AreRight, Shifts, channels_used, names_of, nothing, only, tallied}
 use Rattle.nomos_tally.specs.declared.tallies.Tallies.{Tallies}
-use Rattle.nomos_tally.specs.declared.tally.Doing.TheVariants as doing
-use Rattle.nomos_tally.specs.declared.tally.Doing.{Doing}
+use Rattle.nomos_tally.specs.declared.tally.NameUse.TheVariants as doing
+use Rattle.nomos_tally.specs.declared.tally.NameUse.{NameUse}
 use Rattle.nomos_tally.specs.declared.tally.Tally.{Tally}
 use Rattle.nomos_tally.proofs.CountLaws.{Exchanges, channels-exchanges, fields_of, leaving-exchanges, right-come, right-put}
 use Rattle.nomos_tally.proofs.MoveLaws.{moves-both, moves-still}
@@ -58,7 +58,7 @@ put_at-none number new (o ∷ objects) none = by_test (object_number o == number
     by_test false is rest = ap (λ (os : List Object). o ∷ os) (rest is)
 
 -- tallies that shift as objects do are those of the state afterwards, where names and their types stay
-pub moved-tallied : (before after : Tallies) (s t : State) (less more : Doing → List ℕ) → AreTalliesOf before s
+pub moved-tallied : (before after : Tallies) (s t : State) (less more : NameUse → List ℕ) → AreTalliesOf before s
     → t.next_name ≡ s.next_name → t.types ≡ s.types → Moves before after less more
     → (AreRight before.names.now s.objects → Shifts before.names.now after.names.now less more
     → AreRight after.names.now t.objects)
@@ -78,7 +78,7 @@ moved-tallied before after s t less more of next types moves right = record {
 
 -- so are those that shift as a process exchanges what it does
 pub becomes-tallied : (before after : Tallies) (s t : State) (pid : ℕ) (p : Process) (f : Process → Process)
-    (less more : Doing → List ℕ) → AreTalliesOf before s → process_at s pid ≡ Some p → Becomes s pid f t
+    (less more : NameUse → List ℕ) → AreTalliesOf before s → process_at s pid ≡ Some p → Becomes s pid f t
     → Exchanges (object.Process p) (Some (object.Process (f p))) less more → Moves before after less more
     → AreTalliesOf after t
 becomes-tallied before after s t pid p f less more of there becomes exchanges moves =
@@ -160,7 +160,7 @@ typed-before (d ∷ types) e n other some = by_test (d.0 == n) (typed-before typ
 pub named-tallied : (before after : Tallies) (s t : State) (type : TypeId) (name : ℕ) → AreTalliesOf before s
     → t ≡ with_name type s → name ≡ s.next_name → IsAscending after.names.now
     → All (λ n. n < name + 1) (numbers after.names.now) → (after.exact ≡ true → before.exact ≡ true)
-    → (after.exact ≡ true → (d : Doing) (n : ℕ) → tallied after.names.now d n ≡ tallied before.names.now d n)
+    → (after.exact ≡ true → (d : NameUse) (n : ℕ) → tallied after.names.now d n ≡ tallied before.names.now d n)
     → (after.exact ≡ true → KeepsSuspects before.names.now after.names.now before.suspects after.suspects)
     → (after.exact ≡ true → after.suspects.lost ≡ false → Contains after.suspects.names name) → AreTalliesOf after t
 named-tallied before after s t type name of is own order below exact counts keeps suspect =
@@ -274,7 +274,7 @@ module _ (s t : State) (pid : ℕ) (p : Process) (channels : List (VarId × ℕ)
         omega (arith, shifts d name, right d name, ap (λ (u : State). times (names_of d) u.objects name) same))
 
 -- what a process does by its channels and by its plain fields is what it does with names
-pub process-counted : (p : Process) (x : SeenProcess) → x.offers ≡ p.offers → x.base ≡ p.base → (d : Doing) (name : ℕ)
+pub process-counted : (p : Process) (x : SeenProcess) → x.offers ≡ p.offers → x.base ≡ p.base → (d : NameUse) (name : ℕ)
     → count_of name (channels_used p d) + count_of name (fields_seen x d)
     ≡ count_of name (names_of d (object.Process p))
 process-counted p x offers base doing.Provides name = omega (arith, ap (λ (n : ℕ). count_of name (n ∷ [])) offers)
@@ -283,7 +283,7 @@ process-counted p x offers base doing.Bases name =
     omega (arith, ap (λ (o : Option ℕ). count_of name (option_to_list o)) base)
 
 -- what a message does with the names that it mentions is what it does with names
-message-does : (m : Message) (d : Doing) → names_used (names_in m) d ≡ names_of d (object.Message m)
+message-does : (m : Message) (d : NameUse) → names_used (names_in m) d ≡ names_of d (object.Message m)
 message-does m doing.Provides = by_way m.to_client
   where
     by_way : (b : Bool) → option_to_list (cond b (Some m.from) m.next) ≡ cond b (m.from ∷ []) (option_to_list m.next)
@@ -306,7 +306,7 @@ message-does m doing.Uses = both m.to_client m.payload
     both false payload.Close = refl
 message-does m doing.Bases = refl
 
-pub message-counted : (m : Message) (d : Doing) (name : ℕ)
+pub message-counted : (m : Message) (d : NameUse) (name : ℕ)
     → count_of name (names_used (names_in m) d) ≡ count_of name (names_of d (object.Message m))
 message-counted m d name = ap (count_of name) (message-does m d)
 
@@ -336,7 +336,7 @@ fields-moves a b c p q offers base is_offered is_base one other =
     (only doing.Bases (option_to_list base)) (only doing.Bases (option_to_list q.base)) (fields_of p) (fields_of q) one
     other balanced
   where
-    balanced : (d : Doing) (name : ℕ)
+    balanced : (d : NameUse) (name : ℕ)
         → count_of name (fields_of p d) + count_of name (only doing.Provides (q.offers ∷ []) d)
         + count_of name (only doing.Bases (option_to_list q.base) d)
         ≡ count_of name (fields_of q d) + count_of name (only doing.Provides (offers ∷ []) d)

@@ -17,8 +17,8 @@ use Rattle.nomos_slots.specs.declared.numbered.Slot.{Slot}
 use Rattle.nomos_index.specs.Tidying.{without_type}
 use Rattle.nomos_tally.specs.Suspecting.{IsIdle, Suspicion, suspecting}
 use Rattle.nomos_tally.specs.Tallying.{AreRight, names_of, tallied}
-use Rattle.nomos_tally.specs.declared.tally.Doing.{Doing}
-use Rattle.nomos_tally.specs.declared.tally.Doing.TheVariants as doing
+use Rattle.nomos_tally.specs.declared.tally.NameUse.{NameUse}
+use Rattle.nomos_tally.specs.declared.tally.NameUse.TheVariants as doing
 use Rattle.nomos_tally.specs.declared.tally.Tally.{Tally}
 use Rattle.nomos_named.specs.Tallied.{SayRight, no_suspects}
 
@@ -168,7 +168,7 @@ module _ (tallies : List (Slot Tally)) (suspects : Suspicion) (name : ℕ) (s : 
   -- one with which nothing is done loses its type, and its tally
   pub suspect-dropped : (after : List (Slot Tally)) (t : State) → t ≡ without_type name s
       → numbers after ≡ numbers tallies
-      → ((d : Doing) (n : ℕ) → tallied after d n ≡ tallied tallies d n) → SayRight true suspects after t
+      → ((d : NameUse) (n : ℕ) → tallied after d n ≡ tallied tallies d n) → SayRight true suspects after t
   suspect-dropped after t is order same = record {
     order = subst (IsStrictlySortedBy nat_cmp) (sym order) says.order;
     below =

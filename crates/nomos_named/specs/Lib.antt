@@ -1,4 +1,4 @@
 pub mod Tallied
-pub mod Finding
+pub mod NameFinding
 pub mod Counting
 pub mod State

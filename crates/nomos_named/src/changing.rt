@@ -7,7 +7,7 @@ use crate::counting::{count_channels, uncount_channels};
 use crate::tallied::Tallied;
 use nomos_deeds::sight::{SeenProcess, Sight};
 use nomos_ir::ids::VarId;
-use nomos_tally::tally::{Doing, Hint};
+use nomos_tally::tally::{Hint, NameUse};
 use std::alloc::{AllocError, Global};
 
 impl Tallied {
@@ -27,7 +27,7 @@ impl Tallied {
             object: pid,
             variable: v.0,
         };
-        self.tallies.exchange(Doing::Uses, before, Some(name), by);
+        self.tallies.exchange(NameUse::Uses, before, Some(name), by);
     }
 
     /// A variable of the process has no channel any longer. It takes no room.
@@ -45,7 +45,7 @@ impl Tallied {
             object: pid,
             variable: v.0,
         };
-        self.tallies.exchange(Doing::Uses, before, None, by);
+        self.tallies.exchange(NameUse::Uses, before, None, by);
     }
 
     /// The process has these channels; of a variable that stands twice the first pair counts. It takes no room.
@@ -85,12 +85,12 @@ impl Tallied {
             variable: 0,
         };
         self.tallies.exchange(
-            Doing::Provides,
+            NameUse::Provides,
             Some(before.offers),
             Some(fields.offers),
             by,
         );
         self.tallies
-            .exchange(Doing::Bases, before.base, fields.base, by);
+            .exchange(NameUse::Bases, before.base, fields.base, by);
     }
 }

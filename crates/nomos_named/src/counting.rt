@@ -17,7 +17,7 @@ use nomos_index::inside::Inside;
 use nomos_index::mentions::MessageNames;
 use nomos_ir::ids::VarId;
 use nomos_tally::tallies::Tallies;
-use nomos_tally::tally::{Doing, Hint};
+use nomos_tally::tally::{Hint, NameUse};
 
 /// The channels of a process are counted in.
 pub(crate) fn count_channels(inside: &Inside, tallies: &mut Tallies, pid: u32)
@@ -34,7 +34,7 @@ pub(crate) fn count_channels(inside: &Inside, tallies: &mut Tallies, pid: u32)
             object: pid,
             variable,
         };
-        tallies.exchange(Doing::Uses, None, name, by);
+        tallies.exchange(NameUse::Uses, None, name, by);
     }
 }
 
@@ -53,7 +53,7 @@ pub(crate) fn uncount_channels(inside: &Inside, tallies: &mut Tallies, pid: u32)
             object: pid,
             variable,
         };
-        tallies.exchange(Doing::Uses, name, None, by);
+        tallies.exchange(NameUse::Uses, name, None, by);
     }
 }
 
@@ -66,8 +66,8 @@ pub(crate) fn count_fields(tallies: &mut Tallies, fields: &SeenProcess)
         object: fields.pid,
         variable: 0,
     };
-    tallies.exchange(Doing::Provides, None, Some(fields.offers), by);
-    tallies.exchange(Doing::Bases, None, fields.base, by);
+    tallies.exchange(NameUse::Provides, None, Some(fields.offers), by);
+    tallies.exchange(NameUse::Bases, None, fields.base, by);
 }
 
 /// The same is counted out.
@@ -79,8 +79,8 @@ pub(crate) fn uncount_fields(tallies: &mut Tallies, fields: &SeenProcess)
         object: fields.pid,
         variable: 0,
     };
-    tallies.exchange(Doing::Provides, Some(fields.offers), None, by);
-    tallies.exchange(Doing::Bases, fields.base, None, by);
+    tallies.exchange(NameUse::Provides, Some(fields.offers), None, by);
+    tallies.exchange(NameUse::Bases, fields.base, None, by);
 }
 
 /// The names that a message mentions are counted in.
@@ -92,9 +92,9 @@ pub(crate) fn count_message(tallies: &mut Tallies, names: MessageNames, number: 
         object: number,
         variable: 0,
     };
-    tallies.exchange(Doing::Provides, None, names.provides, by);
-    tallies.exchange(Doing::Uses, None, names.end, by);
-    tallies.exchange(Doing::Uses, None, names.brings, by);
+    tallies.exchange(NameUse::Provides, None, names.provides, by);
+    tallies.exchange(NameUse::Uses, None, names.end, by);
+    tallies.exchange(NameUse::Uses, None, names.brings, by);
 }
 
 /// The same are counted out.
@@ -106,9 +106,9 @@ pub(crate) fn uncount_message(tallies: &mut Tallies, names: MessageNames, number
         object: number,
         variable: 0,
     };
-    tallies.exchange(Doing::Provides, names.provides, None, by);
-    tallies.exchange(Doing::Uses, names.end, None, by);
-    tallies.exchange(Doing::Uses, names.brings, None, by);
+    tallies.exchange(NameUse::Provides, names.provides, None, by);
+    tallies.exchange(NameUse::Uses, names.end, None, by);
+    tallies.exchange(NameUse::Uses, names.brings, None, by);
 }
 
 /// What the object of a number does with names is counted out.

@@ -2,23 +2,23 @@
 ghost use Rattle.std.specs.Prelude.{◌≡◌, ◌==◌, None, true};
 ghost use Rattle.std.specs.Option.{option_map};
 ghost use Rattle.nomos_deeds.specs.Readers.{IsLinearName, keeper};
-ghost use Rattle.nomos_deeds.specs.Seen.{seen_message, seen_process};
-ghost use Rattle.nomos_index.specs.Telling.{DoesAt};
+ghost use Rattle.nomos_deeds.specs.SeenObjects.{seen_message, seen_process};
+ghost use Rattle.nomos_index.specs.NameUses.{DoesAt};
 ghost use Rattle.nomos_machine.specs.Objects.{times};
 ghost use Rattle.nomos_machine.specs.Sight.{message_on, offering, owner};
 ghost use Rattle.nomos_tally.specs.Tallying.{counted, names_of};
-ghost use Rattle.nomos_tally.specs.declared.tally.Doing.TheVariants as doings;
-ghost use Rattle.nomos_named.specs.Finding.{IsFoundBy, doing_of};
+ghost use Rattle.nomos_tally.specs.declared.tally.NameUse.TheVariants as doings;
+ghost use Rattle.nomos_named.specs.NameFinding.{IsFoundBy, doing_of};
 
 use crate::tallied::Tallied;
 use nomos_deeds::sight::{SeenMessage, SeenProcess, Sight};
-use nomos_deeds::types::is_linear;
-use nomos_tally::tally::{Doing, Hint, Tally};
+use nomos_deeds::unfolded_types::is_linear;
+use nomos_tally::tally::{Hint, NameUse, Tally};
 use nomos_types::accepted::Accepted;
 
 /// Who does something with a name.
 #[derive(Clone, Copy, Debug)]
-pub enum Found {
+pub enum Holder {
     /// No object does it.
     Nobody,
     /// This one does it, once, and no other one.
@@ -28,60 +28,60 @@ pub enum Found {
 }
 
 // Who was the last that came to do it.
-fn hint_of(tally: &Tally, doing: Doing) -> Hint {
+fn hint_of(tally: &Tally, doing: NameUse) -> Hint {
     match doing {
-        Doing::Provides => tally.provider,
-        Doing::Uses => tally.user,
-        Doing::Bases => tally.holder,
+        NameUse::Provides => tally.provider,
+        NameUse::Uses => tally.user,
+        NameUse::Bases => tally.holder,
     }
 }
 
 // What a message that goes this way does with the name on which it is read.
-fn doing_of(to_client: bool) -> Doing
+fn doing_of(to_client: bool) -> NameUse
     ensures { result ≡ doing_of to_client }
 {
     if to_client {
-        Doing::Provides
+        NameUse::Provides
     } else {
-        Doing::Uses
+        NameUse::Uses
     }
 }
 
 impl Tallied {
     // Whether the object of the hint does it.
-    fn does(&self, doing: Doing, name: u32, hint: Hint) -> bool
+    fn does(&self, doing: NameUse, name: u32, hint: Hint) -> bool
         ensures { result ≡ true → DoesAt (names_of doing) self.now.state.objects hint.object name }
     {
         match doing {
-            Doing::Provides => self.inside.provides(hint.object, name),
-            Doing::Uses => self.inside.uses(hint.object, hint.variable, name),
-            Doing::Bases => self.inside.bases(hint.object, name),
+            NameUse::Provides => self.inside.provides(hint.object, name),
+            NameUse::Uses => self.inside.uses(hint.object, hint.variable, name),
+            NameUse::Bases => self.inside.bases(hint.object, name),
         }
     }
 
     // Who does it, by its tally.
-    fn told_by(&self, doing: Doing, name: u32, tally: &Tally) -> Found
+    fn told_by(&self, doing: NameUse, name: u32, tally: &Tally) -> Holder
         requires { counted doing tally.now ≡ times (names_of doing) self.now.state.objects name }
         ensures { IsFoundBy doing self.now.state.objects name result }
     {
         let hint = hint_of(tally, doing);
         match tally.count(doing) {
-            0 => Found::Nobody,
-            1 if self.does(doing, name, hint) => Found::One(hint),
-            _ => Found::Unknown,
+            0 => Holder::Nobody,
+            1 if self.does(doing, name, hint) => Holder::One(hint),
+            _ => Holder::Unknown,
         }
     }
 
     /// Who does it.
-    pub(crate) fn found_by(&self, doing: Doing, name: u32) -> Found
+    pub(crate) fn found_by(&self, doing: NameUse, name: u32) -> Holder
         ensures { IsFoundBy doing self.now.state.objects name result }
     {
         if !self.tallies.exact {
-            return Found::Unknown;
+            return Holder::Unknown;
         }
         match self.tallies.names.get(name) {
             Some(tally) => self.told_by(doing, name, &tally),
-            None => Found::Nobody,
+            None => Holder::Nobody,
         }
     }
 
@@ -90,9 +90,9 @@ impl Tallied {
         ensures { result ≡ option_map seen_message (message_on self.now.state.objects to_client name) }
     {
         match self.found_by(doing_of(to_client), name) {
-            Found::Nobody => None,
-            Found::One(by) => self.inside.message_read(by.object, to_client, name),
-            Found::Unknown => self.inside.message_on(to_client, name),
+            Holder::Nobody => None,
+            Holder::One(by) => self.inside.message_read(by.object, to_client, name),
+            Holder::Unknown => self.inside.message_on(to_client, name),
         }
     }
 
@@ -100,10 +100,10 @@ impl Tallied {
     pub(crate) fn user(&self, name: u32) -> Option<u32>
         ensures { result ≡ owner self.now.state name }
     {
-        match self.found_by(Doing::Uses, name) {
-            Found::Nobody => None,
-            Found::One(by) => Some(by.object),
-            Found::Unknown => self.inside.user(name),
+        match self.found_by(NameUse::Uses, name) {
+            Holder::Nobody => None,
+            Holder::One(by) => Some(by.object),
+            Holder::Unknown => self.inside.user(name),
         }
     }
 
@@ -111,10 +111,10 @@ impl Tallied {
     pub(crate) fn offering(&self, name: u32) -> Option<SeenProcess>
         ensures { result ≡ option_map seen_process (offering self.now.state.objects name) }
     {
-        match self.found_by(Doing::Provides, name) {
-            Found::Nobody => None,
-            Found::One(by) => self.inside.process_offering(by.object, name),
-            Found::Unknown => self.inside.offering(name),
+        match self.found_by(NameUse::Provides, name) {
+            Holder::Nobody => None,
+            Holder::One(by) => self.inside.process_offering(by.object, name),
+            Holder::Unknown => self.inside.offering(name),
         }
     }
 
@@ -123,10 +123,10 @@ impl Tallied {
         requires { times (names_of doings.Provides) self.now.state.objects shared ≡ 0 }
         ensures { result ≡ keeper self.now.state.objects shared }
     {
-        match self.found_by(Doing::Bases, shared) {
-            Found::Nobody => None,
-            Found::One(by) => self.inside.standing_for(by.object, shared),
-            Found::Unknown => self.inside.keeper(shared),
+        match self.found_by(NameUse::Bases, shared) {
+            Holder::Nobody => None,
+            Holder::One(by) => self.inside.standing_for(by.object, shared),
+            Holder::Unknown => self.inside.keeper(shared),
         }
     }
 
@@ -136,8 +136,8 @@ impl Tallied {
         requires does { DoesAt (names_of doings.Provides) self.now.state.objects number shared }
         ensures { result ≡ keeper self.now.state.objects shared }
     {
-        match self.found_by(Doing::Bases, shared) {
-            Found::Nobody => self.inside.standing_for(number, shared),
+        match self.found_by(NameUse::Bases, shared) {
+            Holder::Nobody => self.inside.standing_for(number, shared),
             _ => self.inside.keeper(shared),
         }
     }
@@ -147,10 +147,10 @@ impl Tallied {
     pub(crate) fn keeper(&self, shared: u32) -> Option<u32>
         ensures { result ≡ keeper self.now.state.objects shared }
     {
-        match self.found_by(Doing::Provides, shared) {
-            Found::Nobody => self.keeper_by_base(shared),
-            Found::One(by) => self.keeper_providing(shared, by.object),
-            Found::Unknown => self.inside.keeper(shared),
+        match self.found_by(NameUse::Provides, shared) {
+            Holder::Nobody => self.keeper_by_base(shared),
+            Holder::One(by) => self.keeper_providing(shared, by.object),
+            Holder::Unknown => self.inside.keeper(shared),
         }
     }
 

@@ -12,7 +12,7 @@ use nomos_ir::value::{Value, Values};
 use nomos_ir::value_node::ValueNode;
 use nomos_machine::object::{Heard, Said};
 use nomos_parts::performing::{Intent, ROOM_OF_AN_ACT, perform};
-use nomos_parts::starting::{Line, start};
+use nomos_parts::starting::{StartLine, start};
 use nomos_parts::talking::{Opening, Saying, hear, open_outside, say};
 use nomos_types::accepted::Accepted;
 use std::alloc::{AllocError, Global};
@@ -153,7 +153,7 @@ impl Machine for IndexedState {
         payer: u32,
     ) -> Result<u32, AllocError> {
         let keep = self.spare.checked_mul(ROOM_OF_AN_ACT).ok_or(AllocError)?;
-        let line = Line {
+        let line = StartLine {
             declaration,
             values: given.0,
             names: given.1,

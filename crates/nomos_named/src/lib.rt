@@ -2,7 +2,6 @@
 #![tactic(auto)]
 
 mod accounts;
-mod carrying;
 mod changes;
 mod changing;
 mod coming;
@@ -15,6 +14,7 @@ mod leaving;
 mod marking;
 mod outside;
 mod redirecting;
-mod sight;
 pub mod tallied;
+mod tallied_sight;
 mod tidying;
+mod values_and_lists;

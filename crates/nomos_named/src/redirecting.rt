@@ -3,9 +3,9 @@ ghost use Rattle.std.specs.Prelude.{◌≡◌, map};
 ghost use Rattle.nomos_machine.specs.Revised.{renamed};
 ghost use Rattle.nomos_parts.specs.SmallChanges.{redirected};
 
-use crate::finding::Found;
+use crate::finding::Holder;
 use crate::tallied::Tallied;
-use nomos_tally::tally::Doing;
+use nomos_tally::tally::NameUse;
 
 impl Tallied {
     /// Whoever uses the old name uses the new one instead, an outside party too. It takes no room.
@@ -17,14 +17,15 @@ impl Tallied {
         ensures room { self.new.room ≡ self.old.room }
         ensures marked { self.new.marked ≡ self.old.marked }
     {
-        match self.found_by(Doing::Uses, old) {
-            Found::Nobody => self.inside.rename_outside(old, new),
-            Found::One(by) => {
+        match self.found_by(NameUse::Uses, old) {
+            Holder::Nobody => self.inside.rename_outside(old, new),
+            Holder::One(by) => {
                 self.inside.redirect_once(by.object, by.variable, old, new);
                 self.inside.rename_outside(old, new);
-                self.tallies.exchange(Doing::Uses, Some(old), Some(new), by);
+                self.tallies
+                    .exchange(NameUse::Uses, Some(old), Some(new), by);
             }
-            Found::Unknown => {
+            Holder::Unknown => {
                 self.inside.redirect(old, new);
                 self.tallies.exact = false;
             }

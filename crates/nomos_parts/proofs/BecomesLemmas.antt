@@ -9,7 +9,7 @@ use Rattle.nomos_machine.specs.declared.object.Process.{Process}
 use Rattle.nomos_machine.proofs.PreservationLaws.{process_at-there, process-found}
 use Rattle.nomos_machine.proofs.PutLaws.{object_at-put}
 use Rattle.std.specs.Option.{option_map}
-use Rattle.nomos_deeds.specs.Seen.{seen_process}
+use Rattle.nomos_deeds.specs.SeenObjects.{seen_process}
 use Rattle.nomos_deeds.specs.declared.sight.SeenProcess.{SeenProcess}
 use Rattle.nomos_parts.specs.SmallChanges.{Becomes, with_fields, with_process}
 

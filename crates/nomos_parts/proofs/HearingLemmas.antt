@@ -6,7 +6,7 @@ use Rattle.nomos_ir.specs.Value.{Value}
 use Rattle.nomos_ir.specs.declared.ids.Label.{Label}
 use Rattle.nomos_types.specs.Acceptance.{Acceptance, IsAccepted}
 use Rattle.nomos_deeds.specs.Acts.{message_at}
-use Rattle.nomos_deeds.specs.Seen.{seen_message, seen_payload}
+use Rattle.nomos_deeds.specs.SeenObjects.{seen_message, seen_payload}
 use Rattle.nomos_deeds.specs.declared.sight.SeenMessage.{SeenMessage}
 use Rattle.nomos_deeds.specs.declared.sight.SeenPayload.TheVariants as shown
 use Rattle.nomos_machine.specs.Change.{changed, made, paid_in, put_at, tidied}

@@ -6,7 +6,7 @@ use Rattle.nomos_ir.specs.declared.code_node.Chan.{Chan}
 use Rattle.nomos_ir.specs.declared.code_node.Chan.TheVariants as chan
 use Rattle.nomos_ir.specs.declared.ids.VarId.{VarId}
 use Rattle.nomos_deeds.specs.Acts.{taken}
-use Rattle.nomos_deeds.specs.Seen.{seen_channel, seen_message, seen_payload}
+use Rattle.nomos_deeds.specs.SeenObjects.{seen_channel, seen_message, seen_payload}
 use Rattle.nomos_deeds.specs.declared.act.Into.{Into}
 use Rattle.nomos_deeds.specs.declared.act.Into.TheVariants as into
 use Rattle.nomos_deeds.specs.declared.act.Sending.{Sending}

@@ -1,7 +1,7 @@
 -- What an outside party hears, and what stands in the state where it does.
 use Rattle.std.specs.Prelude.{◌≡◌, ◌<◌, ◌^◌, ℕ, List, [], ◌∷◌, Option, Some, IsSome}
 use Rattle.nomos_deeds.specs.Acts.{message_at}
-use Rattle.nomos_deeds.specs.Seen.{seen_message}
+use Rattle.nomos_deeds.specs.SeenObjects.{seen_message}
 use Rattle.nomos_deeds.specs.declared.sight.SeenMessage.{SeenMessage}
 use Rattle.nomos_machine.specs.Hearing.{heard_of}
 use Rattle.nomos_machine.specs.Optional.{◌>>=◌}

@@ -2,7 +2,7 @@
 use Rattle.std.specs.Prelude.{ℕ, true, map, Some, None}
 use Rattle.nomos_ir.specs.declared.mode.Mode.{Mode}
 use Rattle.nomos_ir.specs.declared.mode.Mode.TheVariants as mode
-use Rattle.nomos_deeds.specs.Seen.{seen_process}
+use Rattle.nomos_deeds.specs.SeenObjects.{seen_process}
 use Rattle.nomos_deeds.specs.declared.sight.SeenProcess.{SeenProcess}
 use Rattle.nomos_machine.specs.Change.{paid_in}
 use Rattle.nomos_machine.specs.Revised.{renamed}

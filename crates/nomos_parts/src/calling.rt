@@ -13,11 +13,11 @@ ghost use Rattle.nomos_parts.specs.Performing.{made_by_act};
 ghost use Rattle.nomos_parts.specs.SmallChanges.{with_process};
 
 use crate::beginning::values_of;
-use crate::begun::begins_with;
+use crate::begins_with::begins_with;
 use crate::given::Given;
-use crate::going::go_on;
 use crate::pairs::bindings_of;
 use crate::parts::Parts;
+use crate::plain_fields::go_on;
 use nomos_ir::ids::ProcId;
 use nomos_ir::value::Values;
 use nomos_types::accepted::Accepted;

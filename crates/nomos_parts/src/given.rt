@@ -6,8 +6,8 @@ ghost use Rattle.nomos_machine.specs.State.{process_at};
 ghost use Rattle.nomos_machine.specs.declared.object.Process.{Process};
 ghost use Rattle.nomos_parts.specs.Gives.{given_in};
 
-use crate::lists::{copy_list, list_of};
 use crate::parts::Parts;
+use crate::process_lists::{copy_list, list_of};
 use nomos_deeds::sight::Sight;
 use nomos_eval::evaluation::value_from;
 use nomos_ir::code_node::{Args, ValueArg};

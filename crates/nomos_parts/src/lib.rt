@@ -1,15 +1,13 @@
 //! Acts as small changes of a state, worked out once for every form in which a state is kept.
 #![tactic(auto)]
 
-mod alone;
+mod acts_alone;
 mod beginning;
-mod begun;
+mod begins_with;
 mod calling;
 mod given;
-mod going;
 mod leaving;
 pub mod list_change;
-mod lists;
 mod messages;
 mod messaging;
 pub mod newborn;
@@ -17,6 +15,8 @@ pub mod outside;
 pub mod pairs;
 pub mod parts;
 pub mod performing;
+mod plain_fields;
+mod process_lists;
 mod revising;
 mod revision;
 mod sharing;

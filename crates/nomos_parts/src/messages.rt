@@ -7,7 +7,7 @@ ghost use Rattle.nomos_deeds.specs.declared.act.Act.TheVariants as act;
 ghost use Rattle.nomos_parts.specs.Performing.{made_by_act};
 ghost use Rattle.nomos_parts.specs.Sendings.{brought_by};
 
-use crate::alone::the_value;
+use crate::acts_alone::the_value;
 use crate::messaging::{Receive, Send, hear_end, receive_message, send_message};
 use crate::parts::Parts;
 use nomos_deeds::act::Sending;

@@ -4,7 +4,7 @@ ghost use Rattle.std.specs.Option.{option_map};
 ghost use Rattle.nomos_ir.specs.Value.{Value as Meaning};
 ghost use Rattle.nomos_deeds.specs.Acting.{HasNumbers, IsFrugalInto};
 ghost use Rattle.nomos_deeds.specs.Acts.{message_at, taken};
-ghost use Rattle.nomos_deeds.specs.Seen.{seen_channel, seen_message};
+ghost use Rattle.nomos_deeds.specs.SeenObjects.{seen_channel, seen_message};
 ghost use Rattle.nomos_machine.specs.Deeds.{value_in};
 ghost use Rattle.nomos_machine.specs.Revised.{richer, standing_at, under_name, with_channel, with_value, without_channel};
 ghost use Rattle.nomos_machine.specs.Sight.{is_own, present_name};
@@ -14,8 +14,8 @@ ghost use Rattle.nomos_machine.specs.declared.object.Process.{Process};
 ghost use Rattle.nomos_parts.specs.Sendings.{after_sending, gas_of_sending, with_sent};
 ghost use Rattle.nomos_parts.specs.SmallChanges.{Becomes, with_process, without_object};
 
-use crate::going::{earn, go_on, go_under, spend};
 use crate::parts::Parts;
+use crate::plain_fields::{earn, go_on, go_under, spend};
 use nomos_deeds::act::{Into, Sending};
 use nomos_deeds::sight::{SeenMessage, SeenPayload, Sight};
 use nomos_ir::code_node::Chan;

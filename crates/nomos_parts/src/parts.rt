@@ -2,7 +2,7 @@
 ghost use Rattle.std.specs.Prelude.{◌≡◌, ◌≤◌, ◌<◌, ◌+◌, ◌-◌, ◌^◌, ◌∷◌, ◌++◌, [], ℕ, Option, Some, IsOk, IfOk, OnOk, OnErr, length, map, slice_index};
 ghost use Rattle.std.specs.Option.{option_map};
 ghost use Rattle.nomos_deeds.specs.Acts.{message_at};
-ghost use Rattle.nomos_deeds.specs.Seen.{seen_message};
+ghost use Rattle.nomos_deeds.specs.SeenObjects.{seen_message};
 ghost use Rattle.nomos_machine.specs.Change.{CanGive, paid_in, paid_out, tidied};
 ghost use Rattle.nomos_machine.specs.Revised.{renamed, with_channel, with_value, without_channel};
 ghost use Rattle.nomos_machine.specs.State.{State, process_at};

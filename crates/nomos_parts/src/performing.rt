@@ -3,7 +3,7 @@ ghost use Rattle.std.specs.Prelude.{◌≡◌, ◌≤◌, ◌+◌, IsOk, OnOk, O
 ghost use Rattle.nomos_deeds.specs.Acting.{CanAct, IsFrugalAct, after_act};
 ghost use Rattle.nomos_parts.specs.Performing.{made_by_act};
 
-use crate::alone::{act_emit, act_revision, act_work};
+use crate::acts_alone::{act_emit, act_revision, act_work};
 use crate::calling::{Call, act_call};
 use crate::leaving::{act_close, act_forward};
 use crate::messages::{act_receive, act_send, act_wait};

@@ -6,10 +6,10 @@ ghost use Rattle.nomos_machine.specs.declared.object.Process.{Process};
 ghost use Rattle.nomos_parts.specs.Revisions.{IsPlainRevision, revised};
 ghost use Rattle.nomos_parts.specs.SmallChanges.{Becomes, with_list_change, with_process};
 
-use crate::going::{go_on, spend};
 use crate::list_change::ListChange;
-use crate::lists::{empty_list, longer, taken_apart};
 use crate::parts::Parts;
+use crate::plain_fields::{go_on, spend};
+use crate::process_lists::{empty_list, longer, taken_apart};
 use crate::revision::Revision;
 use nomos_ir::ids::{CodeId, VarId};
 use nomos_ir::value_node::ValueNode;

@@ -8,8 +8,8 @@ ghost use Rattle.nomos_parts.specs.Providers.{provides_as};
 ghost use Rattle.nomos_parts.specs.Sharings.{acquire_act, acquired, release_act, released};
 ghost use Rattle.nomos_parts.specs.SmallChanges.{Becomes};
 
-use crate::going::go_on;
 use crate::parts::Parts;
+use crate::plain_fields::go_on;
 use nomos_deeds::sight::SeenProcess;
 use nomos_ir::ids::{CodeId, TypeId, VarId};
 use nomos_ir::mode::Mode;

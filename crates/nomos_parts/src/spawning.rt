@@ -19,12 +19,12 @@ ghost use Rattle.nomos_parts.specs.Performing.{made_by_act};
 ghost use Rattle.nomos_parts.specs.SmallChanges.{Becomes, with_lists, with_process};
 
 use crate::beginning::{Beginning, begin};
-use crate::begun::begins_with;
-use crate::lists::copy_lists;
+use crate::begins_with::begins_with;
 use crate::pairs::unbind;
 use crate::parts::Parts;
+use crate::process_lists::copy_lists;
 use nomos_deeds::sight::{SeenProcess, Sight};
-use nomos_deeds::types::shows_shared;
+use nomos_deeds::unfolded_types::shows_shared;
 use nomos_ir::code_node::ValueArg;
 use nomos_ir::ids::{CodeId, ProcId, VarId};
 use nomos_ir::program::Program;

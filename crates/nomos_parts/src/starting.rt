@@ -24,7 +24,7 @@ use std::alloc::{AllocError, Global};
 /// A line of a script by which a process of a declaration starts: the values and the names of channels for its
 /// parameters, in their order, and the number of the account that pays for it.
 #[derive(Clone, Copy)]
-pub struct Line<'a> {
+pub struct StartLine<'a> {
     pub declaration: ProcId,
     pub values: &'a Values,
     pub names: &'a [u32],
@@ -132,7 +132,7 @@ pub fn start<P: Parts>(
     parts: &mut P,
     alloc: Global,
     accepted: &Accepted,
-    line: Line,
+    line: StartLine,
     keep: usize,
 ) -> Result<u32, AllocError>
     requires may { MayFire accepted.now (P.state parts.old) }

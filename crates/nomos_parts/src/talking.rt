@@ -44,7 +44,7 @@ pub struct Saying<'a> {
 
 // On which name something is said, how the talk goes on then, and the number of the account that pays.
 #[derive(Clone, Copy)]
-struct Turn {
+struct TalkTurn {
     name: u32,
     way: Way,
     account: u32,
@@ -149,7 +149,7 @@ fn payload_of(said: &Said) -> Result<Payload, AllocError>
 fn speak<P: Outside>(
     parts: &mut P,
     alloc: Global,
-    turn: Turn,
+    turn: TalkTurn,
     payload: Payload,
 ) -> Result<(), AllocError>
     requires room { 3 ≤ P.room parts.old }
@@ -209,7 +209,7 @@ pub fn say<P: Outside>(
     parts.make_room(changes)?;
     let payload = payload_of(saying.said)?;
     let account = saying.account;
-    speak(parts, alloc, Turn { name, way, account }, payload)?;
+    speak(parts, alloc, TalkTurn { name, way, account }, payload)?;
     Ok(())
 }
 

@@ -11,7 +11,7 @@ use Rattle.nomos_machine.specs.declared.object.Message.{Message}
 use Rattle.nomos_machine.specs.declared.object.Object.{Object}
 use Rattle.nomos_machine.specs.declared.object.Process.{Process}
 use Rattle.nomos_plain.specs.Parts.{any_mentions, object_in}
-use Rattle.nomos_plain.specs.declared.object.PlainObject.{PlainObject}
+use Rattle.nomos_plain.specs.declared.plain_object.PlainObject.{PlainObject}
 
 pub find_mapped : {X Y : Type 0} (f : X → Y) (p : Y → Bool) (xs : List X)
     → option_map f (find (λ x. p (f x)) xs) ≡ find p (map f xs)

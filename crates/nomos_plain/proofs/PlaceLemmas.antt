@@ -13,9 +13,9 @@ use Rattle.nomos_machine.specs.declared.object.Object.TheVariants as object
 use Rattle.nomos_machine.specs.declared.object.Process.{Process}
 use Rattle.nomos_parts.proofs.BecomesLemmas.{put-same, put-put}
 use Rattle.nomos_plain.specs.Parts.{has_number, hole, object_in, process_in}
-use Rattle.nomos_plain.specs.declared.object.PlainObject.{PlainObject}
-use Rattle.nomos_plain.specs.declared.object.PlainObject.TheVariants as plain
-use Rattle.nomos_plain.specs.declared.object.PlainProcess.{PlainProcess}
+use Rattle.nomos_plain.specs.declared.plain_object.PlainObject.{PlainObject}
+use Rattle.nomos_plain.specs.declared.plain_object.PlainObject.TheVariants as plain
+use Rattle.nomos_plain.specs.declared.plain_object.PlainProcess.{PlainProcess}
 
 abbrev place : ℕ → List PlainObject → ℕ
 place n objects = position_or_len (has_number n) objects

@@ -14,8 +14,8 @@ use Rattle.nomos_machine.specs.declared.object.Object.{Object}
 use Rattle.nomos_machine.specs.declared.object.Object.TheVariants as object
 use Rattle.nomos_machine.proofs.PutLaws.{object_at-found, push-order, put-all, put-order}
 use Rattle.nomos_plain.specs.Parts.{HasRoom, HaveRoom, StandInOrder, has_number, object_in}
-use Rattle.nomos_plain.specs.declared.object.PlainObject.{PlainObject}
-use Rattle.nomos_plain.specs.declared.object.PlainObject.TheVariants as plain
+use Rattle.nomos_plain.specs.declared.plain_object.PlainObject.{PlainObject}
+use Rattle.nomos_plain.specs.declared.plain_object.PlainObject.TheVariants as plain
 use Rattle.nomos_plain.proofs.PlaceLemmas.{place_found, place_removed, place_set}
 
 -- ---- room

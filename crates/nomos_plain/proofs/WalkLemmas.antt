@@ -28,8 +28,8 @@ use Rattle.nomos_deeds.proofs.FireLaws.{looks-ready}
 use Rattle.nomos_deeds.proofs.LinearNameLaws.{looks-linear}
 use Rattle.nomos_deeds.proofs.LowestLaws.{finds-next, next-ready, over-each}
 use Rattle.nomos_plain.specs.Parts.{object_in}
-use Rattle.nomos_plain.specs.Walks.{is_acquiring, is_over, is_ready_in, is_transaction}
-use Rattle.nomos_plain.specs.declared.object.PlainObject.{PlainObject}
+use Rattle.nomos_plain.specs.PlainWalks.{is_acquiring, is_over, is_ready_in, is_transaction}
+use Rattle.nomos_plain.specs.declared.plain_object.PlainObject.{PlainObject}
 use Rattle.nomos_plain.proofs.FindLemmas.{find_mapped}
 
 -- ---- tests

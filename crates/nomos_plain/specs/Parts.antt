@@ -13,10 +13,10 @@ use Rattle.nomos_machine.specs.declared.object.Object.{Object}
 use Rattle.nomos_machine.specs.declared.object.Object.TheVariants as object
 use Rattle.nomos_machine.specs.declared.object.Payload.TheVariants as payload
 use Rattle.nomos_machine.specs.declared.object.Process.{Process}
-use Rattle.nomos_plain.specs.declared.object.PlainObject.{PlainObject}
-use Rattle.nomos_plain.specs.declared.object.PlainObject.TheVariants as plain
-use Rattle.nomos_plain.specs.declared.object.PlainProcess.{PlainProcess}
-use Rattle.nomos_plain.specs.declared.parts.PlainParts.{PlainParts}
+use Rattle.nomos_plain.specs.declared.plain_object.PlainObject.{PlainObject}
+use Rattle.nomos_plain.specs.declared.plain_object.PlainObject.TheVariants as plain
+use Rattle.nomos_plain.specs.declared.plain_object.PlainProcess.{PlainProcess}
+use Rattle.nomos_plain.specs.declared.plain_parts.PlainParts.{PlainParts}
 
 -- the process that is kept
 abbrev pub process_in : PlainProcess → Process

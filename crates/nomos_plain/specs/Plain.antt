@@ -3,7 +3,7 @@ use Rattle.std.specs.Prelude.{ℕ, ◌/◌}
 use Rattle.nomos_machine.specs.State.{State}
 use Rattle.nomos_parts.specs.declared.performing.TheConstants.{ROOM_OF_AN_ACT}
 use Rattle.nomos_plain.specs.Parts.{state_of}
-use Rattle.nomos_plain.specs.declared.parts.PlainParts.{PlainParts}
+use Rattle.nomos_plain.specs.declared.plain_parts.PlainParts.{PlainParts}
 
 -- the state, and for how many small changes there is room
 pub record Plain : Type 0 where

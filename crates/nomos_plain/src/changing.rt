@@ -4,7 +4,7 @@ ghost use Rattle.nomos_machine.specs.Revised.{with_channel, with_value, without_
 ghost use Rattle.nomos_parts.specs.SmallChanges.{Becomes, with_channels, with_fields, with_list_change, with_lists, with_values};
 ghost use Rattle.nomos_plain.specs.Parts.{IsSound, state_of};
 
-use crate::parts::PlainParts;
+use crate::plain_parts::PlainParts;
 use nomos_deeds::sight::SeenProcess;
 use nomos_ir::ids::VarId;
 use nomos_ir::value::Value;

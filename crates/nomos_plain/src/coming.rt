@@ -6,8 +6,8 @@ ghost use Rattle.nomos_parts.specs.SmallChanges.{process_born, with_name, with_o
 ghost use Rattle.nomos_plain.specs.Parts.{HasRoom, IsSound, object_in, state_of};
 
 use crate::finds::place_of;
-use crate::object::{PlainObject, PlainProcess};
-use crate::parts::PlainParts;
+use crate::plain_object::{PlainObject, PlainProcess};
+use crate::plain_parts::PlainParts;
 use nomos_ir::ids::TypeId;
 use nomos_machine::object::Message;
 use nomos_parts::newborn::Newborn;

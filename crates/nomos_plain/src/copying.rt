@@ -3,8 +3,8 @@ ghost use Rattle.std.specs.Prelude.{◌≡◌, ◌≤◌, IfOk, All, map};
 ghost use Rattle.std.specs.Vec.{vec_len, vec_capacity};
 ghost use Rattle.nomos_plain.specs.Parts.{HasRoom, IsSound, object_in, process_in, state_of};
 
-use crate::object::{PlainObject, PlainProcess};
-use crate::parts::PlainParts;
+use crate::plain_object::{PlainObject, PlainProcess};
+use crate::plain_parts::PlainParts;
 use nomos_ir::ids::VarId;
 use nomos_ir::value::Value;
 use nomos_machine::object::{Message, Payload, PotentialList};

@@ -7,10 +7,10 @@ ghost use Rattle.nomos_machine.specs.Objects.{object_number, object_at, process_
 ghost use Rattle.nomos_machine.specs.declared.object.Object.TheVariants as object;
 ghost use Rattle.nomos_machine.specs.Sight.{same_way, is_read_on, message_on, is_offered, offering, user_of};
 ghost use Rattle.nomos_deeds.specs.Acts.{message_at};
-ghost use Rattle.nomos_deeds.specs.Seen.{seen_process, seen_payload, seen_message};
+ghost use Rattle.nomos_deeds.specs.SeenObjects.{seen_process, seen_payload, seen_message};
 ghost use Rattle.nomos_plain.specs.Parts.{any_mentions, has_number, object_in, process_in};
 
-use crate::object::{PlainObject, PlainProcess};
+use crate::plain_object::{PlainObject, PlainProcess};
 use nomos_deeds::sight::{SeenMessage, SeenPayload, SeenProcess};
 use nomos_ir::ids::VarId;
 use nomos_machine::object::{Message, Payload};

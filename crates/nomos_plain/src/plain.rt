@@ -1,11 +1,11 @@
 //! A state over plain lists.
 ghost use Rattle.std.specs.Prelude.{◌≡◌, IfOk};
-ghost use Rattle.nomos_deeds.specs.Seen.{seen_list};
+ghost use Rattle.nomos_deeds.specs.SeenObjects.{seen_list};
 ghost use Rattle.nomos_machine.specs.State.{empty};
 ghost use Rattle.nomos_plain.specs.Plain.{spare};
 
 use crate::finds::{message_on, offering, process_at, seen_message, seen_process, user};
-use crate::parts::PlainParts;
+use crate::plain_parts::PlainParts;
 use crate::readers::{self, list_of};
 use crate::weights::{affords, is_light_with};
 use nomos_deeds::act::Act;
@@ -19,7 +19,7 @@ use nomos_ir::value_node::ValueNode;
 use nomos_machine::object::PotentialList;
 use nomos_parts::parts::Parts;
 use nomos_parts::performing::{Intent, ROOM_OF_AN_ACT, perform};
-use nomos_parts::starting::{Line, start};
+use nomos_parts::starting::{StartLine, start};
 use nomos_types::accepted::Accepted;
 use std::alloc::{AllocError, Global};
 use std::marker::Model;
@@ -165,7 +165,7 @@ impl Machine for PlainState {
         payer: u32,
     ) -> Result<u32, AllocError> {
         let keep = self.parts.room;
-        let line = Line {
+        let line = StartLine {
             declaration,
             values: given.0,
             names: given.1,

@@ -17,14 +17,14 @@ ghost use Rattle.nomos_deeds.specs.Lowest.{FindsNext};
 ghost use Rattle.nomos_parts.specs.SmallChanges.{value_brought};
 ghost use Rattle.nomos_deeds.specs.Readers.{IsLinearName, IsTransaction, IsWaiting, acquires, keeper, looks_linear, stands_for, view_of, waits};
 ghost use Rattle.nomos_plain.specs.Parts.{object_in, process_in};
-ghost use Rattle.nomos_plain.specs.Walks.{is_acquiring, is_over, is_ready_in, is_transaction};
+ghost use Rattle.nomos_plain.specs.PlainWalks.{is_acquiring, is_over, is_ready_in, is_transaction};
 
 use crate::finds::{message_at, process_at, user};
-use crate::object::{PlainObject, PlainProcess};
+use crate::plain_object::{PlainObject, PlainProcess};
 use nomos_deeds::deeds::looks_ready;
 use nomos_deeds::machine::View;
 use nomos_deeds::sight::Sight;
-use nomos_deeds::types::is_linear;
+use nomos_deeds::unfolded_types::is_linear;
 use nomos_ir::bindings::bound_first;
 use nomos_ir::code_node::CodeNode;
 use nomos_ir::find::find_code;

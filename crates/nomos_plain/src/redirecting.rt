@@ -8,8 +8,8 @@ ghost use Rattle.nomos_parts.specs.SmallChanges.{redirected};
 ghost use Rattle.nomos_plain.specs.Parts.{HasRoom, IsSound, object_in, state_of};
 
 use crate::finds::{place_of, user};
-use crate::object::PlainObject;
-use crate::parts::PlainParts;
+use crate::plain_object::PlainObject;
+use crate::plain_parts::PlainParts;
 use nomos_ir::ids::VarId;
 use nomos_machine::object::{Message, Payload};
 

@@ -6,7 +6,7 @@ ghost use Rattle.nomos_machine.specs.Objects.{potential_of};
 ghost use Rattle.nomos_parts.specs.Gives.{potential_in};
 ghost use Rattle.nomos_plain.specs.Parts.{process_in};
 
-use crate::object::PlainProcess;
+use crate::plain_object::PlainProcess;
 use nomos_ir::ids::VarId;
 use nomos_ir::limits::MAX_WEIGHT;
 use nomos_ir::value_node::ValueNode;

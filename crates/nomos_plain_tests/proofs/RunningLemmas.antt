@@ -27,7 +27,7 @@ use Rattle.nomos_deeds.specs.Readers.{view_of}
 use Rattle.nomos_deeds.specs.declared.fire.Fire.{Fire}
 use Rattle.nomos_deeds.specs.declared.fire.Fire.TheVariants as fire
 use Rattle.nomos_deeds.specs.declared.machine.View.{View}
-use Rattle.nomos_plain_tests.specs.Running.{Running, GoesOn, TakesNothing}
+use Rattle.nomos_plain_tests.specs.PlainRuns.{Running, GoesOn, TakesNothing}
 
 -- the run where its state is this one, and one call less is left
 abbrev pub next_of : Running → State → Running

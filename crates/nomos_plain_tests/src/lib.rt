@@ -15,6 +15,6 @@ pub mod runner;
 pub mod seen;
 #[cfg(test)]
 mod sharing_tests;
-pub mod starts;
 #[cfg(test)]
 mod state_tests;
+pub mod transactions;

@@ -4,7 +4,7 @@ ghost use Rattle.nomos_ir.specs.TermsEvaluation.{instruction_evaluation};
 ghost use Rattle.nomos_eval.specs.Outcomes.{outcome_of};
 
 use crate::expecting::{PlainRunner, begun, expect_end, expect_lowest};
-use crate::runner::Known;
+use crate::runner::Outlook;
 use nomos_deeds::fire::Fire;
 use std::process::Abort;
 use std::test::Fail;
@@ -54,7 +54,7 @@ fn expect_known_step(
     rt: &(impl Abort + AllocGlobal),
     runner: &mut PlainRunner,
     pid: u32,
-    known: &Known,
+    known: &Outlook,
 ) -> Result<(), Fail>
     requires { outcome_of known.now.outcome
         ≡ instruction_evaluation runner.old.accepted.program known.now.wanted.env known.now.wanted.code.0 }
@@ -98,7 +98,7 @@ fn firings_with_outcomes_that_were_asked_for(rt: HostRuntime) -> Result<(), Fail
 fn expect_known(
     rt: &(impl Abort + AllocGlobal),
     runner: &mut PlainRunner,
-    known: &Known,
+    known: &Outlook,
 ) -> Result<(), Fail>
     requires { outcome_of known.now.outcome
         ≡ instruction_evaluation runner.old.accepted.program known.now.wanted.env known.now.wanted.code.0 }

@@ -3,20 +3,20 @@ use crate::expecting::{
     PlainRunner, begun, expect_end, expect_fault, expect_lowest, expect_results,
 };
 use nomos_accept::accepting::accept;
-use nomos_accept::refusal::{AcceptError, Why};
+use nomos_accept::why::{AcceptError, Why};
 use nomos_ir::code_form::CodeForm;
 use nomos_ir::fault::Fault;
 use std::process::Abort;
 use std::test::Fail;
 
 // What a run comes to: which processes fire, the gas that is spent, in Dths, and what is emitted.
-type Course<'a> = (&'a [u32], u128, &'a [(u32, i64)]);
+type PlainCourse<'a> = (&'a [u32], u128, &'a [(u32, i64)]);
 
 // Fails unless the run goes on so; before each firing, each name that has to have an owner has one.
 fn expect_course(
     rt: &(impl Abort + AllocGlobal),
     runner: &mut PlainRunner,
-    course: Course,
+    course: PlainCourse,
 ) -> Result<(), Fail> {
     let (pids, spent, results) = course;
     for pid in pids {
@@ -33,7 +33,7 @@ fn expect_run(
     text: &str,
     dths: u64,
     name: &str,
-    course: Course,
+    course: PlainCourse,
 ) -> Result<(), Fail> {
     let mut runner = begun(rt, text, dths, name)?;
     let went = expect_course(rt, &mut runner, course);

@@ -8,7 +8,7 @@ ghost use Rattle.nomos_machine.specs.TypedState.{IsTyped};
 ghost use Rattle.nomos_deeds.specs.Acting.{IsFrugal, IsFrugalNode};
 ghost use Rattle.nomos_deeds.specs.Firings.{Fires};
 
-use crate::starts::transaction_named;
+use crate::transactions::transaction_named;
 use nomos_deeds::acting::Acting;
 use nomos_deeds::fire::Fire;
 use nomos_deeds::machine::Machine;
@@ -24,17 +24,17 @@ use std::marker::Model;
 
 /// A run of an accepted program on a form of the state, which a count of calls keeps far from the greatest numbers.
 #[derive(Drop, Debug)]
-pub struct Runner<M: Machine> {
+pub struct PlainRunner<M: Machine> {
     accepted: Accepted,
     machine: M,
     left: u32,
 }
 
-impl<M: Machine> Model for Runner<M> {
+impl<M: Machine> Model for PlainRunner<M> {
     ghost use Rattle.std.specs.Prelude.{◌≡◌, None};
     ghost use Rattle.std.specs.Coded.{codes};
     ghost use Rattle.nomos_ir.specs.ValueCode.{value_code};
-    ghost use Rattle.nomos_plain_tests.specs.Running.{Running, GoesOn};
+    ghost use Rattle.nomos_plain_tests.specs.PlainRuns.{Running, GoesOn};
 
     ghost Value = { Running };
 
@@ -48,7 +48,7 @@ impl<M: Machine> Model for Runner<M> {
 
 /// What was wanted of a process, and what it came to.
 #[derive(Drop, Debug)]
-pub struct Known {
+pub struct Outlook {
     pub wanted: Wanted,
     pub outcome: Outcome,
 }
@@ -80,15 +80,15 @@ fn is_frugal_node(node: &CodeNode) -> bool
     )
 }
 
-impl<M: Machine> Runner<M> {
+impl<M: Machine> PlainRunner<M> {
     /// A run that begins with nothing.
-    pub fn new(accepted: Accepted, machine: M) -> Runner<M>
+    pub fn new(accepted: Accepted, machine: M) -> PlainRunner<M>
         requires state { M.state machine ≡ empty }
         requires marked { M.marked machine ≡ None }
         ensures { result.accepted ≡ accepted }
     {
         let _program = accepted.program();
-        Runner {
+        PlainRunner {
             accepted,
             machine,
             left: CALLS,
@@ -219,7 +219,7 @@ impl<M: Machine> Runner<M> {
         &mut self,
         alloc: Global,
         pid: u32,
-        known: &Known,
+        known: &Outlook,
     ) -> Result<Option<Fire>, AllocError>
         requires { outcome_of known.now.outcome
             ≡ instruction_evaluation self.old.accepted.program known.now.wanted.env known.now.wanted.code.0 }
@@ -263,14 +263,14 @@ impl<M: Machine> Runner<M> {
     }
 
     /// What is wanted of the process of this number, and what it comes to.
-    pub fn ask(&self, alloc: Global, pid: u32) -> Result<Option<Known>, AllocError>
+    pub fn ask(&self, alloc: Global, pid: u32) -> Result<Option<Outlook>, AllocError>
         ensures { IfOk result (λ found. IfSome found (λ known. outcome_of known.outcome
             ≡ instruction_evaluation self.now.accepted.program known.wanted.env known.wanted.code.0)) }
     {
         match self.machine.wanted(alloc, &self.accepted, pid)? {
             Some(wanted) => {
                 let outcome = evaluate(alloc, self.accepted.program(), &wanted)?;
-                Ok(Some(Known { wanted, outcome }))
+                Ok(Some(Outlook { wanted, outcome }))
             }
             None => Ok(None),
         }
@@ -332,7 +332,7 @@ impl<M: Machine> Runner<M> {
     }
 }
 
-impl<M: Machine + Drop> Runner<M> {
+impl<M: Machine + Drop> PlainRunner<M> {
     /// Goes on with another machine in the same state.
     pub fn go_on_with(&mut self, machine: M)
         requires state { M.state machine ≡ self.old.state }

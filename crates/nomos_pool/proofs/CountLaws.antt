@@ -3,7 +3,7 @@ use Rattle.std.proofs.Common.{◌≡◌, ◌≢◌, ℕ, suc, cond, eqb, List, [
 use mathlib.Core.Logic.{dite}
 use native.Mathlib.Decide.{ℕ_discrete}
 use Rattle.nomos_pool.specs.PoolRule.{none_left, sent_by}
-use Rattle.nomos_pool.specs.declared.rule.View.{View}
+use Rattle.nomos_pool.specs.declared.pool_rule.PoolView.{PoolView}
 use Rattle.nomos_pool.specs.declared.pool.Submission.{Submission}
 
 nothing : {X : Type 0} (xs : List X) → length xs ≡ 0 → xs ≡ []
@@ -56,14 +56,15 @@ module _ {T : Type 0} where
       ∙ sym r.one
 
   -- where nothing is left, all is there
-  pub rest-there : (a b : View T) (room items : List (Submission T)) → a.taken ≡ b.taken ++ room → a.known ≡ b.known
+  pub rest-there : (a b : PoolView T) (room items : List (Submission T)) → a.taken ≡ b.taken ++ room → a.known ≡ b.known
       → length items ≡ 0 → none_left a items → none_left b room
   rest-there a b room items taken known empty left n =
       ap (sent_by n) (sym taken ∙ sym (append-nil a.taken) ∙ ap (λ l. a.taken ++ l) (sym (nothing items empty)))
       ∙ (left n ∙ ap (λ l. slice_index_or l n []) known)
 
   -- where as many were taken as were left, nothing is left
-  pub all-gone : (a b : View T) (room first items : List (Submission T)) → a.taken ≡ b.taken ++ room → a.known ≡ b.known
+  pub all-gone : (a b : PoolView T) (room first items : List (Submission T)) → a.taken ≡ b.taken ++ room
+      → a.known ≡ b.known
       → none_left b first → length first ≡ length room → none_left a items → length items ≡ 0
   all-gone a b room first items taken known before as_many left =
       let same : (n : ℕ) → sent_by n (b.taken ++ first) ≡ sent_by n (a.taken ++ items) =

@@ -10,7 +10,7 @@ use Rattle.nomos_pool.specs.PoolPass.{AreNewSendersOf, IsSenderOf, submitted_by}
 use Rattle.nomos_pool.specs.PoolRule.{sent_by}
 use Rattle.nomos_pool.specs.declared.hands.Hand.{Hand}
 use Rattle.nomos_pool.specs.declared.pool.Pool.{Pool}
-use Rattle.nomos_pool.specs.declared.pool.Sender.{Sender}
+use Rattle.nomos_pool.specs.declared.pool.Submitter.{Submitter}
 use Rattle.nomos_pool.specs.declared.pool.Submission.{Submission}
 
 -- what a list has where it goes on behind another one
@@ -45,7 +45,7 @@ module _ {T : Type 0} where
   deals-none (t ∷ threads) hands = (refl, λ k d low. (refl, refl))
 
   -- hands with no items among which items are dealt hold the share of their threads
-  pub dealt-hands : (pool : Pool T) (count : ℕ) (threads : List ℕ) (items : List T) (senders : List (Sender T))
+  pub dealt-hands : (pool : Pool T) (count : ℕ) (threads : List ℕ) (items : List T) (senders : List (Submitter T))
       (hands after : List (Hand T)) → AreNewSendersOf pool count senders → AreEmptyHands senders hands
       → AreDealt threads items hands after → AreHandsOf pool count (λ j. dealt_to j threads items) after
   dealt-hands pool count threads items senders hands after new empty dealt =
@@ -73,7 +73,7 @@ module _ {T : Type 0} where
       }
 
   -- one hand more with no items
-  pub more-empty : (senders : List (Sender T)) (hands after : List (Hand T)) (hand : Hand T)
+  pub more-empty : (senders : List (Submitter T)) (hands after : List (Hand T)) (hand : Hand T)
       → AreEmptyHands senders hands → hand.items.items ≡ [] → after ≡ hands ++ hand ∷ []
       → AreEmptyHands (senders ++ hand.sender ∷ []) after
   more-empty senders hands after hand empty none is = record {
@@ -92,14 +92,14 @@ module _ {T : Type 0} where
       (λ i low. (are.each i (get_or (h ∷ hands) i h) (slice_get-get_or (h ∷ hands) i h low)).0)
 
   -- a sender that comes back is that of its place, and has submitted its share
-  pub record IsBack (pool : Pool T) (share : ℕ → List T) (k : ℕ) (s : Sender T) : Type 0 where
+  pub record IsBack (pool : Pool T) (share : ℕ → List T) (k : ℕ) (s : Submitter T) : Type 0 where
     pub of_pool : IsSenderOf pool s
     pub number : s.number ≡ k
     pub submitted : submitted_by s ≡ share k
 
   pub comes-back : (pool : Pool T) (count : ℕ) (share : ℕ → List T) (hands after : List (Hand T))
       → AreHandsOf pool count share hands → AllHandIn pool hands after
-      → (k : ℕ) (s : Sender T) → slice_get (map sender_of after) k ≡ Some s → IsBack pool share k s
+      → (k : ℕ) (s : Submitter T) → slice_get (map sender_of after) k ≡ Some s → IsBack pool share k s
   comes-back pool count share hands after are handed k s at =
       let within = slice_get_within (map sender_of after) k s at in
       let low : k < length hands = omega (arith, within, length-map after sender_of, handed.0) in
@@ -122,8 +122,8 @@ module _ {T : Type 0} where
           }
 
   -- what is known of the senders that come back, by their numbers
-  pub knows : (pool : Pool T) (share : ℕ → List T) (senders : List (Sender T))
-      → ((k : ℕ) (s : Sender T) → slice_get senders k ≡ Some s → IsBack pool share k s)
+  pub knows : (pool : Pool T) (share : ℕ → List T) (senders : List (Submitter T))
+      → ((k : ℕ) (s : Submitter T) → slice_get senders k ≡ Some s → IsBack pool share k s)
       → (j : ℕ) → j < length senders → slice_index_or (map submitted_by senders) j [] ≡ share j
   knows pool share [] back j low = absurd (omega (arith, low))
   knows pool share (d ∷ senders) back j low =
@@ -153,9 +153,9 @@ module _ {T : Type 0} where
       (all-below n gathered (λ j le. sent_rest (eqb x.sender j) x.item (sent_by j gathered) (none j le)))
 
   -- what is gathered of senders that have submitted their shares
-  pub gathers : (pool : Pool T) (count : ℕ) (threads : List ℕ) (items : List T) (senders : List (Sender T))
+  pub gathers : (pool : Pool T) (count : ℕ) (threads : List ℕ) (items : List T) (senders : List (Submitter T))
       (gathered : List (Submission T)) → length senders ≡ count
-      → ((k : ℕ) (s : Sender T) → slice_get senders k ≡ Some s → IsBack pool (λ j. dealt_to j threads items) k s)
+      → ((k : ℕ) (s : Submitter T) → slice_get senders k ≡ Some s → IsBack pool (λ j. dealt_to j threads items) k s)
       → ((n : ℕ) → sent_by n gathered ≡ slice_index_or (map submitted_by senders) n [])
       → IsGathering count threads items gathered
   gathers pool count threads items senders gathered many back known = record {

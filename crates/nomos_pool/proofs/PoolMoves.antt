@@ -11,7 +11,7 @@ use Rattle.crossbeam_queue.specs.Fifo.{Pushes, Pops, Forks, Merges, Learns}
 use Rattle.crossbeam_queue.proofs.Lists.{at_set}
 use Rattle.nomos_pool.specs.PoolRule.{Delivers, FitsSender, FitsTaker, sent_by, sender_view, spent_view, taker_view, none_left}
 use Rattle.nomos_pool.specs.declared.pool.Submission.{Submission}
-use Rattle.nomos_pool.specs.declared.rule.View.{View}
+use Rattle.nomos_pool.specs.declared.pool_rule.PoolView.{PoolView}
 
 -- ---- a function that is changed at one number
 
@@ -56,16 +56,17 @@ module _ {T : Type 0} where
 
   -- ---- views at their ports
 
-  abbrev All : (ℕ → View T → Type 0) → List (View T) → Type 0
-  All F views = (port : ℕ) (v : View T) → get_elem? views port ≡ some v → F port v
+  abbrev All : (ℕ → PoolView T → Type 0) → List (PoolView T) → Type 0
+  All F views = (port : ℕ) (v : PoolView T) → get_elem? views port ≡ some v → F port v
 
-  all_set : (F : ℕ → View T → Type 0) (views : List (View T)) (port : ℕ) (w : View T) → F port w
-      → ((j : ℕ) (u : View T) → j ≢ port → get_elem? views j ≡ some u → F j u) → All F (set views port w)
+  all_set : (F : ℕ → PoolView T → Type 0) (views : List (PoolView T)) (port : ℕ) (w : PoolView T) → F port w
+      → ((j : ℕ) (u : PoolView T) → j ≢ port → get_elem? views j ≡ some u → F j u) → All F (set views port w)
   all_set F views port w mine others j u e = ⊎_elim
-      (λ (x : (j ≡ port) × (w ≡ u)). subst (λ (y : ℕ × View T). F y.0 y.1) (λ i. (sym x.0 i, x.1 i)) mine)
+      (λ (x : (j ≡ port) × (w ≡ u)). subst (λ (y : ℕ × PoolView T). F y.0 y.1) (λ i. (sym x.0 i, x.1 i)) mine)
       (λ (x : (j ≢ port) × (get_elem? views j ≡ some u)). others j u x.0 x.1) (at_set views port j w u e)
 
-  at_end : (l : List (View T)) (a b : View T) (j : ℕ) → get_elem? l j ≢ some b → get_elem? (l ++ a ∷ []) j ≡ some b
+  at_end : (l : List (PoolView T)) (a b : PoolView T) (j : ℕ) → get_elem? l j ≢ some b
+      → get_elem? (l ++ a ∷ []) j ≡ some b
       → j ≡ length l
   at_end [] a b zero n e = refl
   at_end [] a b (suc j) n e = absurd (some-ne-none b (sym e))
@@ -73,7 +74,7 @@ module _ {T : Type 0} where
   at_end (x ∷ xs) a b (suc j) n e = ap suc (at_end xs a b j n e)
 
   -- a view of a list with one more is one of the list, or it is the last
-  at_more : (l : List (View T)) (a b : View T) (j : ℕ) → get_elem? (l ++ a ∷ []) j ≡ some b
+  at_more : (l : List (PoolView T)) (a b : PoolView T) (j : ℕ) → get_elem? (l ++ a ∷ []) j ≡ some b
       → (get_elem? l j ≡ some b) ⊎ ((j ≡ length l) × (a ≡ b))
   at_more [] a b zero e = inr (refl, (let f = e in cc f))
   at_more [] a b (suc j) e = absurd (some-ne-none b (sym e))
@@ -94,7 +95,7 @@ module _ {T : Type 0} where
     none = λ n le. (refl, refl);
     fits = λ port v at. ⊎_elim (λ no. absurd (some-ne-none v (sym no)))
         (λ (last : (port ≡ 0) × (taker_view 0 [] [] ≡ v)). subst
-        (λ (u : View T).
+        (λ (u : PoolView T).
         FitsSender (λ n. None) (λ n. []) port u × FitsTaker 0 0 (λ n. None) (λ n. []) [] port u) last.1 (
           (λ sends. absurd (true≢false (sym sends))),
           (λ takes. (last.0, refl, refl, omega arith, λ k low. absurd (omega arith))),
@@ -102,10 +103,10 @@ module _ {T : Type 0} where
         (at_more [] (taker_view 0 [] []) v port at);
   }
 
-  pub submits : (n port : ℕ) (v : View T) (x : Submission T) → v.sends ≡ true → x.sender ≡ v.number
+  pub submits : (n port : ℕ) (v : PoolView T) (x : Submission T) → v.sends ≡ true → x.sender ≡ v.number
       → Pushes Delivers n port v x (λ w. w ≡ record v { submitted = v.submitted ++ x.item ∷ [] })
   submits n port v x may own items views short d at =
-      let w : View T = record v { submitted = v.submitted ++ x.item ∷ [] } in
+      let w : PoolView T = record v { submitted = v.submitted ++ x.item ∷ [] } in
       let mine = (d.fits port v at).0 may in
       let seat_x : d.seat x.sender ≡ Some port = ap d.seat own ∙ mine.0 in
       let apart : (k : ℕ) → d.seat k ≡ None → k ≢ x.sender =
@@ -115,7 +116,7 @@ module _ {T : Type 0} where
       let here : v.submitted ++ x.item ∷ [] ≡ sent v.number =
       ap (λ l. l ++ x.item ∷ []) (mine.1 ∙ ap d.sent (sym own))
       ∙ (sym (changed_here x.sender s d.sent) ∙ ap sent own) in
-      let known : (taken : ℕ) (u : View T) → FitsTaker d.taker d.made d.seat d.sent d.taken taken u
+      let known : (taken : ℕ) (u : PoolView T) → FitsTaker d.taker d.made d.seat d.sent d.taken taken u
       → FitsTaker d.taker d.made d.seat sent d.taken taken u =
       λ taken u fits takes.
       let f = fits takes in (
@@ -158,10 +159,10 @@ module _ {T : Type 0} where
         refl,
       )
 
-  pub takes : (port : ℕ) (v : View T) → v.takes ≡ true
+  pub takes : (port : ℕ) (v : PoolView T) → v.takes ≡ true
       → Pops Delivers port v (λ x w. w ≡ record v { taken = v.taken ++ x ∷ [] })
   takes port v may x items views d at =
-      let w : View T = record v { taken = v.taken ++ x ∷ [] } in
+      let w : PoolView T = record v { taken = v.taken ++ x ∷ [] } in
       let mine = (d.fits port v at).1 may in
       let taken : List (Submission T) = d.taken ++ x ∷ [] in (
         w,
@@ -183,18 +184,18 @@ module _ {T : Type 0} where
         refl,
       )
 
-  pub enrols : (port : ℕ) (v : View T) → v.takes ≡ true → v.sends ≡ false
+  pub enrols : (port : ℕ) (v : PoolView T) → v.takes ≡ true → v.sends ≡ false
       → Forks Delivers port v (record v { made = v.made + 1 }) (sender_view v.made)
   enrols port v may quiet items views d at =
-      let l : View T = record v { made = v.made + 1 } in
-      let r : View T = sender_view v.made in
+      let l : PoolView T = record v { made = v.made + 1 } in
+      let r : PoolView T = sender_view v.made in
       let mine = (d.fits port v at).1 may in
-      let vs : List (View T) = set views port l in
+      let vs : List (PoolView T) = set views port l in
       let seat : ℕ → Option ℕ = changed_at d.made (Some (length vs)) d.seat in
       let free = d.none d.made (omega arith) in
       let apart : (n j : ℕ) → d.seat n ≡ Some j → n ≢ d.made =
       λ n j is same. some-not_none (d.seat d.made) j (ap d.seat (sym same) ∙ is) free.0 in
-      let Old : ℕ → View T → Type 0 =
+      let Old : ℕ → PoolView T → Type 0 =
       λ j u. FitsSender seat d.sent j u × FitsTaker d.taker (d.made + 1) seat d.sent d.taken j u in
       let old : All Old vs = all_set Old views port l (
         (λ sends. absurd (true≢false (sym sends ∙ quiet))),
@@ -225,7 +226,7 @@ module _ {T : Type 0} where
             (changed_else d.made n (Some (length vs)) d.seat (λ same. omega arith) ∙ z.0, z.1);
         fits = λ j u e. ⊎_elim (λ there. old j u there)
             (λ (last : (j ≡ length vs) × (r ≡ u)). subst
-            (λ (y : View T).
+            (λ (y : PoolView T).
             FitsSender seat d.sent j y × FitsTaker d.taker (d.made + 1) seat d.sent d.taken j y) last.1 (
               (λ sends. (
                 ap seat mine.2 ∙ (changed_here d.made (Some (length vs)) d.seat ∙ ap Some (sym last.0)),
@@ -236,7 +237,8 @@ module _ {T : Type 0} where
             (at_more vs r u j e);
       }
 
-  pub learns : (port : ℕ) (v : View T) → v.takes ≡ true → length v.known ≡ v.made → Learns Delivers port v (none_left v)
+  pub learns : (port : ℕ) (v : PoolView T) → v.takes ≡ true → length v.known ≡ v.made
+      → Learns Delivers port v (none_left v)
   learns port v may all items views d at n =
       let mine = (d.fits port v at).1 may in
       ap (λ l. sent_by n (l ++ items)) mine.1
@@ -246,13 +248,14 @@ module _ {T : Type 0} where
       (d.none n (omega (arith, all, mine.2, high))).1 ∙ sym (get_or_past v.known n [] high))
       (cases_lt n (length v.known)))
 
-  pub takes_in : (port : ℕ) (v : View T) (other : ℕ) (u : View T) → v.takes ≡ true → v.sends ≡ false → u.sends ≡ true
+  pub takes_in : (port : ℕ) (v : PoolView T) (other : ℕ) (u : PoolView T) → v.takes ≡ true → v.sends ≡ false
+      → u.sends ≡ true
       → u.number ≡ length v.known
       → Merges Delivers port v other u (record v { known = v.known ++ u.submitted ∷ [] }) spent_view
   takes_in port v other u may quiet sends next items views d at two at' =
-      let both : View T = record v { known = v.known ++ u.submitted ∷ [] } in
+      let both : PoolView T = record v { known = v.known ++ u.submitted ∷ [] } in
       let mine = (d.fits port v at).1 may in
-      let vs : List (View T) = set views port both in
+      let vs : List (PoolView T) = set views port both in
       let was : get_elem? views other ≡ some u =
       ⊎_elim (λ x. absurd (two x.0)) (λ x. x.1) (at_set views port other both u at') in
       let theirs = (d.fits other u was).0 sends in
@@ -277,7 +280,7 @@ module _ {T : Type 0} where
       let below : k < length v.known = omega (arith, ne, less, length-append v.known (u.submitted ∷ [])) in
       let g = mine.4 k below in
       (freed k g.0, get_or_append_left v.known (u.submitted ∷ []) [] k below ∙ g.1)) in
-      let Now : ℕ → View T → Type 0 =
+      let Now : ℕ → PoolView T → Type 0 =
       λ j y. j ≢ other → FitsSender seat d.sent j y × FitsTaker d.taker d.made seat d.sent d.taken j y in
       let now : All Now vs = all_set Now views port both
       (λ apart. (

@@ -3,7 +3,7 @@ use Rattle.std.specs.Prelude.{◌≡◌, ℕ, ◌<◌, ◌≤◌, ◌==◌, ◌+
 use Rattle.nomos_pool.specs.Gathering.{dealt_to}
 use Rattle.nomos_pool.specs.PoolPass.{IsSenderOf, IsTakerOf, submitted_by, taken_by}
 use Rattle.nomos_pool.specs.declared.pool.Pool.{Pool}
-use Rattle.nomos_pool.specs.declared.pool.Sender.{Sender}
+use Rattle.nomos_pool.specs.declared.pool.Submitter.{Submitter}
 use Rattle.nomos_pool.specs.declared.hands.Hand.{Hand}
 use Rattle.nomos_pool.specs.declared.gathering.Ready.{Ready}
 
@@ -28,11 +28,11 @@ module _ {T : Type 0} where
   abbrev pub items_of : Hand T → List T
   items_of hand = reverse hand.items.items
 
-  abbrev pub sender_of : Hand T → Sender T
+  abbrev pub sender_of : Hand T → Submitter T
   sender_of hand = hand.sender
 
   -- hands of these senders, with no items
-  pub record AreEmptyHands (senders : List (Sender T)) (hands : List (Hand T)) : Type 0 where
+  pub record AreEmptyHands (senders : List (Submitter T)) (hands : List (Hand T)) : Type 0 where
     pub theirs : map sender_of hands ≡ senders
     pub empty : All (λ hand. hand.items.items ≡ []) hands
 

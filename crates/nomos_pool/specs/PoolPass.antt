@@ -1,10 +1,10 @@
 -- What clauses say of a pool, its senders and its taker.
 use Rattle.std.specs.Prelude.{◌≡◌, ℕ, ◌<◌, ◌≤◌, true, false, List, [], length, slice_get, Some, vec_len, vec_capacity}
 use Rattle.crossbeam_queue.specs.Passes.{Pass, view, IsPassOf, ruled_capacity}
-use Rattle.nomos_pool.specs.declared.rule.View.{View}
+use Rattle.nomos_pool.specs.declared.pool_rule.PoolView.{PoolView}
 use Rattle.nomos_pool.specs.declared.pool.Submission.{Submission}
 use Rattle.nomos_pool.specs.declared.pool.Pool.{Pool}
-use Rattle.nomos_pool.specs.declared.pool.Sender.{Sender}
+use Rattle.nomos_pool.specs.declared.pool.Submitter.{Submitter}
 use Rattle.nomos_pool.specs.declared.pool.Taker.{Taker}
 
 module _ {T : Type 0} where
@@ -13,7 +13,7 @@ module _ {T : Type 0} where
   capacity_of pool = ruled_capacity pool.queue
 
   -- what a sender submitted, in its order
-  abbrev pub submitted_by : Sender T → List T
+  abbrev pub submitted_by : Submitter T → List T
   submitted_by s = (view s.pass).submitted
 
   -- what the taker took, in its order
@@ -21,7 +21,7 @@ module _ {T : Type 0} where
   taken_by t = (view t.pass).taken
 
   -- a sender of this pool
-  pub record IsSenderOf (pool : Pool T) (s : Sender T) : Type 0 where
+  pub record IsSenderOf (pool : Pool T) (s : Submitter T) : Type 0 where
     pub of_queue : IsPassOf pool.queue s.pass
     pub sends : (view s.pass).sends ≡ true
     pub number : (view s.pass).number ≡ s.number
@@ -38,19 +38,19 @@ module _ {T : Type 0} where
     pub room : ruled_capacity pool.queue ≤ vec_capacity t.room
 
   -- the senders of this pool, so many, in order of number, that submitted nothing
-  pub record AreNewSendersOf (pool : Pool T) (count : ℕ) (senders : List (Sender T)) : Type 0 where
+  pub record AreNewSendersOf (pool : Pool T) (count : ℕ) (senders : List (Submitter T)) : Type 0 where
     pub many : length senders ≡ count
     pub all : pool.senders ≡ count
-    pub each : (k : ℕ) (s : Sender T) → slice_get senders k ≡ Some s
+    pub each : (k : ℕ) (s : Submitter T) → slice_get senders k ≡ Some s
         → IsSenderOf pool s × (s.number ≡ k) × (submitted_by s ≡ [])
 
   -- a pass of the taker alone
-  pub record IsAlone (pool : Pool T) (pass : Pass (Submission T) (View T)) : Type 0 where
+  pub record IsAlone (pool : Pool T) (pass : Pass (Submission T) (PoolView T)) : Type 0 where
     pub of_queue : IsPassOf pool.queue pass
     pub takes : (view pass).takes ≡ true
     pub quiet : (view pass).sends ≡ false
 
   -- senders of this pool, in order of number
-  abbrev pub AreSendersOf : Pool T → List (Sender T) → Type 0
-  AreSendersOf pool senders = (k : ℕ) (s : Sender T) → slice_get senders k ≡ Some s
+  abbrev pub AreSendersOf : Pool T → List (Submitter T) → Type 0
+  AreSendersOf pool senders = (k : ℕ) (s : Submitter T) → slice_get senders k ≡ Some s
       → IsSenderOf pool s × (s.number ≡ k)

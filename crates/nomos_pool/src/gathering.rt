@@ -8,7 +8,7 @@ ghost use Rattle.nomos_pool.specs.Hands.{AreEmptyHands, sender_of, IsReady, Give
 use crate::dealing::deal_threads;
 use crate::gate::{Gate, OpenGate};
 use crate::hands::{Hand, hand_in_all};
-use crate::pool::{Opened, Pool, Sender, Submission, Taker, open};
+use crate::pool::{Opened, Pool, Submission, Submitter, Taker, open};
 use nomos_script::item::Batch;
 use std::alloc::{AllocError, Global};
 use std::sync::Wait;
@@ -21,11 +21,14 @@ pub(crate) struct Ready<T: Drop> {
     pub pool: Pool<T>,
     pub taker: Taker<T>,
     pub hands: Vec<Hand<T>>,
-    pub room: Vec<Sender<T>>,
+    pub room: Vec<Submitter<T>>,
 }
 
 // A hand for each sender, with no items.
-fn empty_hands<T: Drop>(alloc: Global, senders: Vec<Sender<T>>) -> Result<Vec<Hand<T>>, AllocError>
+fn empty_hands<T: Drop>(
+    alloc: Global,
+    senders: Vec<Submitter<T>>,
+) -> Result<Vec<Hand<T>>, AllocError>
     ensures { IfOk result (λ hands. AreEmptyHands senders.items hands.items) }
 {
     let mut hands = Vec::new(alloc);
@@ -92,7 +95,7 @@ fn make_ready<T: Drop>(
 }
 
 // The senders of hands, in their order, in the room that there is for them.
-fn senders_of<T: Drop>(hands: Vec<Hand<T>>, mut room: Vec<Sender<T>>) -> Vec<Sender<T>>
+fn senders_of<T: Drop>(hands: Vec<Hand<T>>, mut room: Vec<Submitter<T>>) -> Vec<Submitter<T>>
     requires empty { (room.items ≡ []) × (vec_len room ≡ 0) }
     requires free { length hands.items ≤ vec_capacity room }
     ensures { result.items ≡ map sender_of hands.items }

@@ -5,7 +5,7 @@ ghost use Rattle.nomos_pool.specs.PoolPass.{IsSenderOf, submitted_by};
 ghost use Rattle.nomos_pool.specs.Hands.{HandsIn, IsHandOf, AllHandIn};
 
 use crate::gate::Gate;
-use crate::pool::{Pool, Sender, Submitted};
+use crate::pool::{Pool, Submitted, Submitter};
 use std::sync::Wait;
 use std::thread;
 use std::thread::Threads;
@@ -13,12 +13,17 @@ use std::thread::Threads;
 /// What one thread hands in: a sender, and its items, the last one first, so that the next one is popped.
 #[derive(Drop)]
 pub struct Hand<T> {
-    pub sender: Sender<T>,
+    pub sender: Submitter<T>,
     pub items: Vec<T>,
 }
 
 // Submits an item, again and again while the queue is full.
-fn submit_when_room<T: Drop, R: Wait>(rt: &R, pool: &Pool<T>, sender: &mut Sender<T>, mut item: T)
+fn submit_when_room<T: Drop, R: Wait>(
+    rt: &R,
+    pool: &Pool<T>,
+    sender: &mut Submitter<T>,
+    mut item: T,
+)
     requires sender { IsSenderOf pool.now sender.old }
     ensures sender { IsSenderOf pool.now sender.new × (sender.new.number ≡ sender.old.number) }
     ensures submitted { submitted_by sender.new ≡ submitted_by sender.old ++ item ∷ [] }

@@ -6,5 +6,5 @@ pub mod gate;
 pub mod gathering;
 pub mod hands;
 pub mod pool;
+mod pool_rule;
 pub mod pooled;
-mod rule;

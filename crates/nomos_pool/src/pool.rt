@@ -4,7 +4,7 @@ ghost use Rattle.crossbeam_queue.specs.Passes.{view};
 ghost use Rattle.nomos_pool.specs.PoolRule.{none_left, sent_by};
 ghost use Rattle.nomos_pool.specs.PoolPass.{AreNewSendersOf, AreSendersOf, IsAlone, IsSenderOf, IsTakerOf, capacity_of, submitted_by, taken_by};
 
-use crate::rule::{Enrols, Left, Orderly, Submits, Takes, TakesIn, View};
+use crate::pool_rule::{Enrols, Left, Orderly, PoolView, Submits, Takes, TakesIn};
 use crossbeam_queue::{Pass, RuledArrayQueue};
 use std::alloc::{AllocError, Global};
 use std::sync::Wait;
@@ -20,21 +20,21 @@ pub struct Submission<T> {
 /// docs/PROMISES.md, "nomos_pool, submitting threads", says what of it is promised, and what is not.
 #[derive(Drop)]
 pub struct Pool<T: Drop> {
-    queue: RuledArrayQueue<Submission<T>, View<T>, Orderly, Global>,
+    queue: RuledArrayQueue<Submission<T>, PoolView<T>, Orderly, Global>,
     senders: u32,
 }
 
 /// Who submits. Each sender of a pool has a number of its own, below the number of senders.
 #[derive(Drop)]
-pub struct Sender<T> {
+pub struct Submitter<T> {
     number: u32,
-    pass: Pass<Submission<T>, View<T>>,
+    pass: Pass<Submission<T>, PoolView<T>>,
 }
 
 /// Who takes. There is one of a pool, with room for all that the queue can hold, so that a pool ends without memory.
 #[derive(Drop)]
 pub struct Taker<T> {
-    pass: Pass<Submission<T>, View<T>>,
+    pass: Pass<Submission<T>, PoolView<T>>,
     room: Vec<Submission<T>>,
 }
 
@@ -51,7 +51,7 @@ pub enum Submitted<T> {
 pub struct Opened<T: Drop> {
     pub pool: Pool<T>,
     pub taker: Taker<T>,
-    pub senders: Vec<Sender<T>>,
+    pub senders: Vec<Submitter<T>>,
 }
 
 /// Opens a pool whose queue can hold so many items, with so many senders, that have submitted nothing.
@@ -66,7 +66,7 @@ pub fn open<T: Drop>(alloc: Global, capacity: usize, senders: u32) -> Result<Ope
     let (queue, mut pass) = RuledArrayQueue::ruled(alloc, capacity)?;
     for number in 0..senders {
         let own = queue.another::<Enrols>(&mut pass);
-        made.push_reserved(Sender { number, pass: own });
+        made.push_reserved(Submitter { number, pass: own });
     }
     Ok(Opened {
         pool: Pool { queue, senders },
@@ -78,7 +78,7 @@ pub fn open<T: Drop>(alloc: Global, capacity: usize, senders: u32) -> Result<Ope
 impl<T: Drop> Pool<T> {
     /// Submits an item, where the queue has room. It takes no memory. That `Full` comes of a full queue alone, and that
     /// what was submitted is ever taken, is not promised.
-    pub fn submit<R: Wait>(&self, rt: &R, sender: &mut Sender<T>, item: T) -> Submitted<T>
+    pub fn submit<R: Wait>(&self, rt: &R, sender: &mut Submitter<T>, item: T) -> Submitted<T>
         requires sender { IsSenderOf self.now sender.old }
         ensures sender { IsSenderOf self.now sender.new × (sender.new.number ≡ sender.old.number) }
         ensures yes { result ≡ Submitted.Yes → submitted_by sender.new ≡ submitted_by sender.old ++ item ∷ [] }
@@ -106,7 +106,7 @@ impl<T: Drop> Pool<T> {
     }
 
     // Takes in all senders: what they submitted is known then.
-    fn take_in(&self, pass: &mut Pass<Submission<T>, View<T>>, senders: Vec<Sender<T>>)
+    fn take_in(&self, pass: &mut Pass<Submission<T>, PoolView<T>>, senders: Vec<Submitter<T>>)
         requires taker { IsAlone self.now pass.old }
         requires none { (view pass.old).known ≡ [] }
         requires senders { AreSendersOf self.now senders.items }
@@ -124,7 +124,7 @@ impl<T: Drop> Pool<T> {
     fn take_rest<R: Wait>(
         &self,
         rt: &R,
-        pass: &mut Pass<Submission<T>, View<T>>,
+        pass: &mut Pass<Submission<T>, PoolView<T>>,
         room: &mut Vec<Submission<T>>,
     )
         requires taker { IsAlone self.now pass.old }
@@ -149,7 +149,7 @@ impl<T: Drop> Pool<T> {
         self,
         rt: &R,
         taker: Taker<T>,
-        senders: Vec<Sender<T>>,
+        senders: Vec<Submitter<T>>,
     ) -> Vec<Submission<T>>
         requires taker { IsTakerOf self taker }
         requires many { length senders.items ≡ self.senders }

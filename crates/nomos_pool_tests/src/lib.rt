@@ -7,6 +7,6 @@ mod gates;
 #[cfg(test)]
 mod pool_tests;
 #[cfg(test)]
-mod running_tests;
+mod pooled_tests;
 #[cfg(test)]
-mod script_tests;
+mod running_tests;

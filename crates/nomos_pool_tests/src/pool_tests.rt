@@ -3,7 +3,7 @@ ghost use Rattle.nomos_pool.specs.PoolPass.{IsSenderOf, IsTakerOf};
 
 use crate::gates::MeetingGate;
 use nomos_pool::gathering::{Shares, gather_dealt};
-use nomos_pool::pool::{Opened, Pool, Sender, Submitted, Taker, open};
+use nomos_pool::pool::{Opened, Pool, Submitted, Submitter, Taker, open};
 use std::process::Abort;
 use std::sync::Wait;
 
@@ -11,7 +11,7 @@ use std::sync::Wait;
 fn has_one_place<R: Wait>(
     rt: &R,
     pool: &Pool<u32>,
-    sender: &mut Sender<u32>,
+    sender: &mut Submitter<u32>,
     taker: &mut Taker<u32>,
 ) -> bool
     requires sender { IsSenderOf pool.now sender.old }

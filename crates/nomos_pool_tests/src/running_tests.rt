@@ -1,13 +1,13 @@
 //! Tests: scripts whose single lines threads submit, run on a ledger.
 ghost use Rattle.std.specs.Prelude.{◌<◌};
 
-use crate::script_tests::{SENDERS, keeps_order};
+use crate::pooled_tests::{SENDERS, keeps_order};
 use nomos_accept::accepting::accept;
 use nomos_machine::policy::Policy;
 use nomos_named::indexed::IndexedState;
 use nomos_pool::pooled::pool_script;
+use nomos_run::one_worker::run_script;
 use nomos_run::orders::{Orders, ScriptRun, WholeRun};
-use nomos_run::running::run_script;
 use nomos_script::item::ScriptItem;
 use nomos_script::parsing::parse_script;
 use nomos_script::script::Script;

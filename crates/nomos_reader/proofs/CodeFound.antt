@@ -14,7 +14,7 @@ use Rattle.nomos_surface.specs.Grammatical.{AreArms, Each, IsCode, IsLast, IsSte
 use Rattle.nomos_reader.specs.mirror.Codes.{is_last, last_from, read_arm, read_args, read_braced, read_call, read_case, read_chan, read_code, read_code_if, read_code_match, read_fwd, read_last, read_step, read_steps, whole_term}
 use Rattle.nomos_reader.specs.mirror.Front.{Reader, front_kind, is_bar, read_name, read_parted, rest_of}
 use Rattle.nomos_surface.specs.Print.{print_args, print_arms, print_chan, print_code, print_heading, print_last, print_step}
-use Rattle.nomos_surface.specs.Shown.{Shown, Meets, Spells, sign, keyword, keyword_at, print_name, print_parted}
+use Rattle.nomos_surface.specs.Printed.{Shown, Meets, Spells, sign, keyword, keyword_at, print_name, print_parted}
 use Rattle.nomos_surface.specs.Tree.{TermTree, ArgTrees, StepTree, label, send, recv, put, taking, pay, getting, work, wait, accept, detach, acquire, release, spawn, binding, empty_list, longer_list, emit, CodeTree, code, LastTree, close, fwd, calling, code_if, case, code_match, ArmTrees, no_arms, arm}
 use Rattle.nomos_syntax.specs.declared.symbol.Symbol.TheVariants as sym
 use Rattle.nomos_syntax.specs.Lexeme.{name, reserved, symbol, Placed}

@@ -11,7 +11,7 @@ use Rattle.nomos_surface.specs.declared.potential.Quantity.TheVariants as quanti
 use Rattle.nomos_surface.specs.declared.value_type.ValueType.{ValueType}
 use Rattle.nomos_reader.specs.mirror.Front.{Reader, base_from, front_kind, front_quantity, is_comma, is_list_end, kind_of, number_of, quantity_from, read_lists, read_name, read_parted, read_potential, read_until, read_value_type}
 use Rattle.nomos_surface.specs.Print.{base_word, print_lists, print_potential, print_quantity, print_value_type}
-use Rattle.nomos_surface.specs.Shown.{Shown, HasValue, Meets, Printer, Spells, sign, keyword_at, print_name, print_parted}
+use Rattle.nomos_surface.specs.Printed.{Shown, HasValue, Meets, Printer, Spells, sign, keyword_at, print_name, print_parted}
 use Rattle.nomos_syntax.specs.declared.symbol.Symbol.{Symbol}
 use Rattle.nomos_syntax.specs.declared.symbol.Symbol.TheVariants as sym
 use Rattle.nomos_syntax.specs.declared.token.TokenKind.{TokenKind}

@@ -26,7 +26,7 @@ use Rattle.nomos_reader.specs.mirror.Codes.{whole_term}
 use Rattle.nomos_reader.specs.mirror.Files.{begins_list, cost_from, decl_from, is_cost, list_potential_from, mode_from, model_from, proc_from, read_all_pars, read_body, read_chan_par, read_chan_pars, read_decl, read_decls, read_definition, read_file, read_function, read_par, read_pars, read_process, read_transaction, read_value_par, read_value_pars, whole_code, whole_type}
 use Rattle.nomos_reader.specs.mirror.Front.{front_kind, is_list_end, is_open_brace, read_optional, read_value_type, rest_of}
 use Rattle.nomos_surface.specs.Print.{base_word, cost_word, mode_word, print_body, print_chan_par, print_code, print_cost, print_decl, print_decls, print_file, print_list_potential, print_lists, print_optional, print_par, print_pars, print_term, print_type, print_value_par, print_value_type}
-use Rattle.nomos_surface.specs.Shown.{Shown, Meets, Printer, Spells, sign, keyword, keyword_at, print_name, print_parted}
+use Rattle.nomos_surface.specs.Printed.{Shown, Meets, Printer, Spells, sign, keyword, keyword_at, print_name, print_parted}
 use Rattle.nomos_surface.specs.Tree.{TypeTree, TermTree, CodeTree, ChanParTree, ParTrees, DeclTree, definition, function, process, transaction, FileTree}
 use Rattle.nomos_syntax.specs.declared.symbol.Symbol.{Symbol}
 use Rattle.nomos_syntax.specs.declared.symbol.Symbol.TheVariants as sym

@@ -10,3 +10,5 @@ pub mod TermFronts
 pub mod TermReads
 pub mod TermFound
 pub mod TypeFound
+pub mod ParsingLaws
+pub mod LimitLaws

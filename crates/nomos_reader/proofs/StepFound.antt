@@ -16,7 +16,7 @@ use Rattle.nomos_reader.specs.mirror.Codes.{bound_from, list_from, read_args, re
 use Rattle.nomos_reader.specs.mirror.Front.{Reader, front_kind, is_list, is_list_end, is_open_brace, read_name, read_potential, read_value_type, rest_of}
 use Rattle.nomos_reader.specs.mirror.Terms.{read_term}
 use Rattle.nomos_surface.specs.Print.{print_args, print_chan, print_named, print_potential, print_step, print_term, print_value_type}
-use Rattle.nomos_surface.specs.Shown.{Shown, Meets, Spells, sign, keyword, keyword_at, print_name, print_parted}
+use Rattle.nomos_surface.specs.Printed.{Shown, Meets, Spells, sign, keyword, keyword_at, print_name, print_parted}
 use Rattle.nomos_surface.specs.Tree.{TermTree, ArgTrees, StepTree, label, send, recv, put, taking, pay, getting, work, wait, accept, detach, acquire, release, spawn, binding, empty_list, longer_list, emit}
 use Rattle.nomos_syntax.specs.declared.symbol.Symbol.TheVariants as sym
 use Rattle.nomos_syntax.specs.Lexeme.{name, reserved, symbol, Placed}

@@ -12,7 +12,7 @@ use Rattle.nomos_surface.specs.Grammatical.{IsTerm, is_choosing, is_matching, is
 use Rattle.nomos_reader.specs.mirror.Front.{Reader, front_kind, is_list, is_list_end, is_open_brace, kind_of}
 use Rattle.nomos_reader.specs.mirror.Terms.{Heads, comparison_in, is_cons, operand_of, read_chain, read_comparison, read_conses, read_list_term, read_negation, read_primary, read_term, term_from, with_heads}
 use Rattle.nomos_surface.specs.Print.{print_heading, print_term, print_terms}
-use Rattle.nomos_surface.specs.Shown.{Shown, at_offset, Meets, Spells, sign, sign_at, keyword, keyword_at, print_name}
+use Rattle.nomos_surface.specs.Printed.{Shown, at_offset, Meets, Spells, sign, sign_at, keyword, keyword_at, print_name}
 use Rattle.nomos_surface.specs.TermView.{term_trees}
 use Rattle.nomos_surface.specs.Tree.{TermTree, application, binary, matching, TermTrees, no_terms, term}
 use Rattle.nomos_syntax.specs.declared.symbol.Symbol.TheVariants as sym

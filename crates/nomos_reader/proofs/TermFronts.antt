@@ -9,7 +9,7 @@ use Rattle.nomos_surface.specs.Grammatical.{IsTerm, is_choosing, is_matching, is
 use Rattle.nomos_reader.specs.mirror.Front.{Reader, front_kind, is_list, is_list_end, is_open_brace, is_open_paren, kind_of, number_of}
 use Rattle.nomos_reader.specs.mirror.Terms.{comparison_in, is_cons, is_not, operand_of, operator_in, read_chain, term_from}
 use Rattle.nomos_surface.specs.Print.{print_term, truth_word}
-use Rattle.nomos_surface.specs.Shown.{Shown, anywhere, at_offset, HasValue, Spells}
+use Rattle.nomos_surface.specs.Printed.{Shown, anywhere, at_offset, HasValue, Spells}
 use Rattle.nomos_surface.specs.Tree.{TermTree, number, truth, me, variable, application, no_items, binary, negation, choosing, matching, parenthesized}
 use Rattle.nomos_syntax.specs.declared.symbol.Symbol.TheVariants as sym
 use Rattle.nomos_syntax.specs.declared.token.TokenKind.{TokenKind}

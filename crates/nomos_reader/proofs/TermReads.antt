@@ -12,7 +12,7 @@ use Rattle.nomos_surface.specs.declared.value_type.ValueType.{ValueType}
 use Rattle.nomos_reader.specs.mirror.Front.{Reader, front_kind, is_open_paren, kind_of, read_name, read_until, read_value_type}
 use Rattle.nomos_reader.specs.mirror.Terms.{Heads, compared_from, comparison_in, is_cons, is_not, more_from, named_from, operand_of, operator_in, primary_from, read_chain, read_comparison, read_conses, read_if, read_list_term, read_match, read_more, read_negation, read_nil, read_nots, read_parenthesized, read_primary, read_term, term_from, with_heads, with_nots}
 use Rattle.nomos_surface.specs.Print.{print_term, truth_word}
-use Rattle.nomos_surface.specs.Shown.{Shown, at_offset, number_at, Meets, Spells, sign, keyword_at, print_name}
+use Rattle.nomos_surface.specs.Printed.{Shown, at_offset, number_at, Meets, Spells, sign, keyword_at, print_name}
 use Rattle.nomos_surface.specs.TermView.{term_trees}
 use Rattle.nomos_surface.specs.Tree.{TermTree, number, truth, me, variable, application, no_items, binary, negation, choosing, matching, parenthesized}
 use Rattle.nomos_syntax.specs.declared.symbol.Symbol.TheVariants as sym

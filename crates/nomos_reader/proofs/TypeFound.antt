@@ -15,7 +15,7 @@ use Rattle.nomos_surface.specs.Grammatical.{IsType, is_up, is_down, is_paying, i
 use Rattle.nomos_reader.specs.mirror.Front.{Reader, front_at, front_kind, is_bar, read_parted, read_potential, read_value_type, rest_of}
 use Rattle.nomos_reader.specs.mirror.Types.{atom_from, carried_from, channel_sender, read_atom, read_branch, read_carrying, read_choice, read_grouped, read_paying, read_shift, read_type, read_valued, type_from, value_sender}
 use Rattle.nomos_surface.specs.Print.{base_word, channel_sign, choice_sign, print_branches, print_lists, print_payment, print_potential, print_type, value_sign}
-use Rattle.nomos_surface.specs.Shown.{Shown, at_offset, Meets, Spells, sign, sign_at, keyword_at, print_name, print_more, print_parted}
+use Rattle.nomos_surface.specs.Printed.{Shown, at_offset, Meets, Spells, sign, sign_at, keyword_at, print_name, print_more, print_parted}
 use Rattle.nomos_surface.specs.Tree.{TypeTree, one, named, choice, channel, valued, paying, going_up, going_down, grouped, BranchTrees, no_branches, branch}
 use Rattle.nomos_surface.specs.TypeView.{Branch, branch_trees}
 use Rattle.nomos_syntax.specs.declared.symbol.Symbol.{Symbol}

@@ -1,3 +1,4 @@
 pub mod mirror
 pub mod Readable
 pub mod TreeOf
+pub mod Parsing

@@ -5,3 +5,4 @@ pub mod Front
 pub mod TermPieces
 pub mod Terms
 pub mod Types
+pub mod Errors

@@ -11,7 +11,7 @@ use crate::code_reader::read_code;
 use crate::step_reader::whole_term;
 use crate::tokens::Tokens;
 use crate::type_reader::read_type;
-use crate::value_reader::{at_list, read_optional, read_potential, read_value_type};
+use crate::value_type_reader::{at_list, read_optional, read_potential, read_value_type};
 use nomos_ir::items::Items;
 use nomos_ir::word::Word;
 use nomos_surface::codes::SurfaceCode;

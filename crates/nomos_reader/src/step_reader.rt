@@ -8,7 +8,7 @@ ghost use Rattle.nomos_surface.specs.Tree.{send, recv, taking, acquire, release}
 
 use crate::term_reader::{read_arguments, read_term};
 use crate::tokens::Tokens;
-use crate::value_reader::{at_list, begins_potential, read_potential, read_value_type};
+use crate::value_type_reader::{at_list, begins_potential, read_potential, read_value_type};
 use nomos_ir::word::Word;
 use nomos_surface::name_at::{NameAt, NamesAt};
 use nomos_surface::steps::{ChanAt, SurfaceArgs, SurfaceStep};

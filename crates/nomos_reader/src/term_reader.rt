@@ -8,7 +8,7 @@ ghost use Rattle.nomos_surface.specs.Tree.{binary, negation};
 
 use crate::chain::Chain;
 use crate::tokens::Tokens;
-use crate::value_reader::read_value_type;
+use crate::value_type_reader::read_value_type;
 use nomos_ir::word::Word;
 use nomos_surface::terms::{Operator, SurfaceTerm};
 use nomos_syntax::symbol::Symbol;

@@ -6,7 +6,7 @@ ghost use Rattle.nomos_surface.specs.Tree.{going_up, going_down};
 ghost use Rattle.nomos_surface.specs.TypeView.{branch_tree, type_tree};
 
 use crate::tokens::Tokens;
-use crate::value_reader::{read_potential, read_value_type};
+use crate::value_type_reader::{read_potential, read_value_type};
 use nomos_ir::word::Word;
 use nomos_surface::types::{Sender, SurfaceBranch, SurfaceType};
 use nomos_syntax::symbol::Symbol;

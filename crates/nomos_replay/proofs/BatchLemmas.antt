@@ -25,12 +25,12 @@ use Rattle.nomos_replay.specs.Spoiled as spoiled
 use Rattle.nomos_replay.specs.Stand.{Goes, MayStand, SaysFiring, Stand, UnderWay, before, fires, told_run}
 use Rattle.nomos_replay.specs.Stand as stand
 use Rattle.nomos_replay.specs.Told.{Told, next_limit}
-use Rattle.nomos_replay.specs.declared.ends.Kept.{Kept}
+use Rattle.nomos_replay.specs.declared.ends.KeptEnd.{KeptEnd}
 use Rattle.nomos_replay.specs.declared.error.ReplayError.{ReplayError}
 use Rattle.nomos_replay.specs.declared.error.ReplayError.TheVariants as error
-use Rattle.nomos_replay.specs.declared.source.Source.{Source}
-use Rattle.nomos_replay.specs.mirror.Reading.{Carries, HasRead, Stops}
-use Rattle.nomos_replay.specs.mirror.Running.{Asks, CarriesFirings, EndStops, FireStops, FiresBy, firing_by, under_way}
+use Rattle.nomos_replay.specs.declared.journal_lines.JournalLines.{JournalLines}
+use Rattle.nomos_replay.specs.mirror.JournalReading.{Carries, HasRead, Stops}
+use Rattle.nomos_replay.specs.mirror.BatchUnderWay.{Asks, CarriesFirings, EndStops, FireStops, FiresBy, firing_by, under_way}
 use Rattle.nomos_replay.proofs.ReadingLemmas.{carries-line, carries-on, stops-later, stops-no_form, stops-spoiled}
 
 -- ---- worlds
@@ -96,7 +96,7 @@ module _ (a : Acceptance) (v : Version) (most : ℕ) where
       (λ i. record { batch = batch; starts = starts i; firings = firings i; state = u.state })
 
   -- a firing leads on
-  pub carries-fired : (begun w u : WorldState) {start source after : Source} {l : JournalLine}
+  pub carries-fired : (begun w u : WorldState) {start source after : JournalLines} {l : JournalLine}
       → CarriesFirings a v most start begun source w → HasRead a.annotations.unit source l after
       → FiresBy a v most l w u → CarriesFirings a v most start begun after u
   carries-fired begun w u {start} {source} {after} {l} carries read by first all items batch told same =
@@ -113,7 +113,7 @@ module _ (a : Acceptance) (v : Version) (most : ℕ) where
       carries-on a first all (carries first all items batch told same) (carries-line a first all read there)
 
   -- a line that is no firing and no end stops
-  pub stops-firing : IsAccepted a → (w : WorldState) {source after : Source} {l : JournalLine}
+  pub stops-firing : IsAccepted a → (w : WorldState) {source after : JournalLines} {l : JournalLine}
       → HasRead a.annotations.unit source l after → ((e : End) → l ≢ line.End e) → (e : ReplayError)
       → FireStops a v most after.at l w e → (first : LedgerState) (all items : List ScriptItem) (batch : Batch)
       (told : Told) → next_limit told ≡ most → Stops a first all source (fires v told (under_way batch w) items) e
@@ -145,7 +145,7 @@ module _ (a : Acceptance) (v : Version) (most : ℕ) where
   stops-firing accepted w read no_end (error.WrongEnd n kept found) stops first all items batch told same = absurd stops
 
   -- an end that is allowed leads on
-  pub carries-end : (w : WorldState) {source after : Source} (e : End)
+  pub carries-end : (w : WorldState) {source after : JournalLines} (e : End)
       → HasRead a.annotations.unit source (line.End e) after → IsAllowed a w.state (length w.firings) most e
       → (first : LedgerState) (all items : List ScriptItem) (batch : Batch) (told : Told) → next_limit told ≡ most
       → Carries a first all source (fires v told (under_way batch w) items) after
@@ -157,7 +157,7 @@ module _ (a : Acceptance) (v : Version) (most : ℕ) where
       (subst (λ (n : ℕ). IsAllowed a w.state (length w.firings) n e) (sym same) allowed)))
 
   -- one that is not stops
-  pub stops-end : (w : WorldState) {source after : Source} (kept : Kept)
+  pub stops-end : (w : WorldState) {source after : JournalLines} (kept : KeptEnd)
       → HasRead a.annotations.unit source (line.End kept.end) after → kept.at ≡ after.at → (e : ReplayError)
       → EndStops a w.state (length w.firings) most kept e → (first : LedgerState) (all items : List ScriptItem)
       (batch : Batch) (told : Told) → next_limit told ≡ most
@@ -180,7 +180,7 @@ module _ (a : Acceptance) (v : Version) (most : ℕ) where
   stops-end w kept read at (error.WrongFiring n pid) stops first all items batch told same = absurd stops
 
   -- what is answered of an end is answered where the batch began
-  pub judged : (begun w : WorldState) {start source after : Source} (kept : Kept)
+  pub judged : (begun w : WorldState) {start source after : JournalLines} (kept : KeptEnd)
       → CarriesFirings a v most start begun source w → HasRead a.annotations.unit source (line.End kept.end) after
       → kept.at ≡ after.at → (r : Result End ReplayError)
       → MatchResult r (λ e. (e ≡ kept.end) × IsAllowed a w.state (length w.firings) most e)
@@ -205,7 +205,7 @@ always-ok a most first w (Ok e) ran = ran
 always-ok a most first w (Err e) ran = tt
 
 -- an end that is given back is allowed
-pub judged-allowed : (a : Acceptance) (most : ℕ) (w : WorldState) (kept : Kept) (r : Result End ReplayError)
+pub judged-allowed : (a : Acceptance) (most : ℕ) (w : WorldState) (kept : KeptEnd) (r : Result End ReplayError)
     → MatchResult r (λ e. (e ≡ kept.end) × IsAllowed a w.state (length w.firings) most e)
     (EndStops a w.state (length w.firings) most kept) → IfOk r (IsAllowed a w.state (length w.firings) most)
 judged-allowed a most w kept (Ok e) is = is.1

@@ -13,7 +13,7 @@ use Rattle.nomos_journal.specs.JournalText.{firing_line}
 use Rattle.nomos_journal.specs.declared.line.JournalLine.{JournalLine}
 use Rattle.nomos_journal.specs.declared.line.Version.{Version}
 use Rattle.nomos_ledger.specs.Calls.{HasFired}
-use Rattle.nomos_replay.specs.mirror.Running.{Asks, FiresBy, FiresOrNot, firing_by}
+use Rattle.nomos_replay.specs.mirror.BatchUnderWay.{Asks, FiresBy, FiresOrNot, firing_by}
 
 module _ (a : Acceptance) (v : Version) (most : ℕ) (l : JournalLine) (before after : WorldState) (pid : ℕ)
     (place : CodeId) where

@@ -43,8 +43,8 @@ use Rattle.nomos_legal.specs.NextNumbers.{HasNumbered, PassageNumbers}
 use Rattle.nomos_legal.specs.Passage.{IsPassage, Passage, RunsTo}
 use Rattle.nomos_legal.specs.Passage as passage
 use Rattle.nomos_legal.specs.StandsFor.{StandsNamed}
-use Rattle.nomos_legal.specs.Starting.{Resolves}
-use Rattle.nomos_legal.specs.Starting as starting
+use Rattle.nomos_legal.specs.LineStarts.{Resolves}
+use Rattle.nomos_legal.specs.LineStarts as starting
 use Rattle.nomos_legal.specs.declared.journal.End.{End}
 use Rattle.nomos_legal.specs.declared.journal.End.TheVariants as end
 use Rattle.nomos_legal.specs.declared.journal.Journal.{Journal}

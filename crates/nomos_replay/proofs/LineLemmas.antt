@@ -2,7 +2,7 @@
 use Rattle.std.proofs.Common.{◌≡◌, ◌∙◌, ◌<◌, ◌^◌, ℕ, List, [], ◌∷◌, ◌++◌, length, length-append, Some, None, sym, ap, subst, arith}
 use Rattle.std.proofs.lemmas.Option.{none-some}
 use Rattle.nomos_legal.specs.declared.journal.End.{End}
-use Rattle.nomos_texts.specs.Reading.{ReadsAs}
+use Rattle.nomos_texts.specs.ReadAs.{ReadsAs}
 use Rattle.nomos_texts.specs.Splitting.{ComesApart, Lacks}
 use Rattle.nomos_texts.proofs.SplittingLaws.{Lacks-apart, apart-only}
 use Rattle.nomos_journal.specs.Line.{line_text, IsLine}

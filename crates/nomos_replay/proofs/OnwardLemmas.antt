@@ -38,10 +38,10 @@ use Rattle.nomos_replay.specs.Stand.{Opens, Stand, UnderWay, entry_at, fires, le
 use Rattle.nomos_replay.specs.Stand as stand
 use Rattle.nomos_replay.specs.Told.{Told, next_limit, told_with}
 use Rattle.nomos_replay.specs.declared.error.ReplayError.{ReplayError}
-use Rattle.nomos_replay.specs.declared.source.Source.{Source}
+use Rattle.nomos_replay.specs.declared.journal_lines.JournalLines.{JournalLines}
 use Rattle.nomos_replay.specs.mirror.Items.{PassesOn, told_of}
-use Rattle.nomos_replay.specs.mirror.Reading.{Carries, HasRead, HasReadEnd, HasReadLine, Stops, StopsAtEnd}
-use Rattle.nomos_replay.specs.mirror.Running.{under_way}
+use Rattle.nomos_replay.specs.mirror.JournalReading.{Carries, HasRead, HasReadEnd, HasReadLine, Stops, StopsAtEnd}
+use Rattle.nomos_replay.specs.mirror.BatchUnderWay.{under_way}
 use Rattle.nomos_replay.proofs.ReadingLemmas.{carries-line, carries-on, stops-later}
 
 -- an end that is allowed after firings is none of an item without them
@@ -93,7 +93,7 @@ begun-item_room {old} {there} {l} {w = w} under room =
 module _ (a : Acceptance) (v : Version) where
   -- ---- items without firings
 
-  module _ (told : Told) (i : ScriptItem) (at : ℕ) (own : End) (after : LedgerState) {source middle : Source}
+  module _ (told : Told) (i : ScriptItem) (at : ℕ) (own : End) (after : LedgerState) {source middle : JournalLines}
       (is : entry_at i ≡ Some at) (opens : (items : List ScriptItem)
       → Opens a v told items i (owes v told i at own after items))
       (read : HasRead a.annotations.unit source (line.Line at) middle) where
@@ -105,7 +105,8 @@ module _ (a : Acceptance) (v : Version) where
         (stand.item_line v told i items at (owes v told i at own after items) is (opens items))
 
     -- and its end on
-    owed-carries : {later : Source} → HasRead a.annotations.unit middle (line.End own) later → (first : LedgerState)
+    owed-carries : {later : JournalLines} → HasRead a.annotations.unit middle (line.End own) later
+        → (first : LedgerState)
         (all items : List ScriptItem)
         → Carries a first all source (stand.before v told (i ∷ items)) later
         (stand.before v (told_with told (still i (bare at own) told.ledger after)) items)
@@ -140,7 +141,8 @@ module _ (a : Acceptance) (v : Version) where
         (record { made = λ fits. absurd (never fits); refused = λ _. (refl, refl) })
 
     -- an item without firings whose line and end were read is told
-    still-carries : {most : ℕ} {p : Passage} → IsPassage a most p → IsStill p.entry → (source middle later : Source)
+    still-carries : {most : ℕ} {p : Passage} → IsPassage a most p → IsStill p.entry
+        → (source middle later : JournalLines)
         → HasReadLine a.annotations.unit (entry_at p.item) source middle
         → HasReadEnd a.annotations.unit p.entry middle later → (first : LedgerState) (all items : List ScriptItem)
         → Carries a first all source (stand.before v (told_of limit ps p.before) (p.item ∷ items)) later
@@ -164,12 +166,12 @@ module _ (a : Acceptance) (v : Version) where
           answers = λ answer rest.
               answers.shows (source.at + 1) v (told_of limit ps l) at items source.lines answer rest;
         } in
-        subst (λ (x : Source). Carries a first all source
+        subst (λ (x : JournalLines). Carries a first all source
         (stand.before v (told_of limit ps l) (item.Show at ∷ items)) x
         (stand.before v (told_of limit (ps ++ still (item.Show at) None l l ∷ []) l) items)) (sym (ends ∙ read)) here
 
     -- or the text is refused at its end
-    still-refused : {most : ℕ} {p : Passage} → IsPassage a most p → IsStill p.entry → (source middle : Source)
+    still-refused : {most : ℕ} {p : Passage} → IsPassage a most p → IsStill p.entry → (source middle : JournalLines)
         (e : ReplayError) → HasReadLine a.annotations.unit (entry_at p.item) source middle
         → StopsAtEnd a v middle p.entry e → (first : LedgerState) (all items : List ScriptItem)
         → Stops a first all source (stand.before v (told_of limit ps p.before) (p.item ∷ items)) e
@@ -198,7 +200,7 @@ module _ (a : Acceptance) (v : Version) where
 
   module _ {M : Type 0} (told : Told) {old after : WalkState} (program : old.accepted ≡ a) {l : LedgerState}
       (same : told.ledger ≡ l) {i : ScriptItem} {passed : PassedItem M} (passes : PassesStill old l i passed after)
-      (source middle : Source) (read : HasReadLine a.annotations.unit (entry_at i) source middle) where
+      (source middle : JournalLines) (read : HasReadLine a.annotations.unit (entry_at i) source middle) where
     is-passage : IsPassage a 0 passes.passage
     is-passage = subst (λ (b : Acceptance). IsPassage b 0 passes.passage) program (passes.is 0)
 
@@ -207,7 +209,8 @@ module _ (a : Acceptance) (v : Version) where
         subst (λ (j : ScriptItem). HasReadLine a.annotations.unit (entry_at j) source middle) (sym passes.item) read
 
     -- an item that has passed without firings, and whose end was read
-    pub still-on : (kept : PassedItem M) {later : Source} → kept.ledger ≡ passed.ledger → kept.entry ≡ passed.entry
+    pub still-on : (kept : PassedItem M) {later : JournalLines} → kept.ledger ≡ passed.ledger
+        → kept.entry ≡ passed.entry
         → HasReadEnd a.annotations.unit passed.entry middle later
         → PassesOn a v told old (λ items. stand.before v told (i ∷ items)) source i kept later after
     still-on kept {later} ledger entry ends = record {
@@ -244,7 +247,7 @@ module _ (a : Acceptance) (v : Version) where
         (subst (λ (o : Option Entry). StopsAtEnd a v middle o e) (sym passes.entry) stops) first all items))
 
     -- whatever is answered
-    pub still-answer : (r : Result (PassedItem M) ReplayError) (later : Source)
+    pub still-answer : (r : Result (PassedItem M) ReplayError) (later : JournalLines)
         → IfOk r (λ kept. (kept.ledger ≡ passed.ledger) × (kept.entry ≡ passed.entry)
         × HasReadEnd a.annotations.unit passed.entry middle later)
         → IfErr r (StopsAtEnd a v middle passed.entry)
@@ -279,7 +282,7 @@ module _ (a : Acceptance) (v : Version) where
       → IsAllowed a u.state (length u.firings) (batch_limit old.limit old.made) e
       → passed.ledger ≡ left_by e u → passed.entry ≡ Some (batch_entry at u e)
       → ((batch : Batch) → batch.line ≡ at → after ≡ walk_with (passage_of old.accepted batch u e) old)
-      → {source later : Source}
+      → {source later : JournalLines}
       → ((first : LedgerState) (all items : List ScriptItem)
       → Carries a first all source (fires v told (under_way under.batch w) items) later
       (stand.before v (told_run a told (under_way under.batch u) e) items))
@@ -303,7 +306,8 @@ module _ (a : Acceptance) (v : Version) where
       }
 
   -- what is answered of a batch under way, of the walk with which it began
-  abbrev BatchAnswers : {M : Type 0} → Result (PassedItem M) ReplayError → ℕ → ℕ → WorldState → Source → Source
+  abbrev BatchAnswers : {M : Type 0} → Result (PassedItem M) ReplayError → ℕ → ℕ → WorldState → JournalLines
+      → JournalLines
       → WalkState → WalkState → Type 0
   BatchAnswers {M} r at spent w source later after old =
       (told : Told) (i : ScriptItem) (begun : HasBegunBatch old told.ledger i at spent w old)
@@ -317,7 +321,7 @@ module _ (a : Acceptance) (v : Version) where
   pub begun-answer : {M : Type 0} (r : Result (PassedItem M) ReplayError) (told : Told) {old there : WalkState}
       (after : WalkState) → old.accepted ≡ a → {l : LedgerState} → told.ledger ≡ l
       → next_limit told ≡ batch_limit old.limit old.made → {i : ScriptItem} {at spent : ℕ} {w : WorldState}
-      → HasBegunBatch old l i at spent w there → (source middle later : Source)
+      → HasBegunBatch old l i at spent w there → (source middle later : JournalLines)
       → HasReadLine a.annotations.unit (entry_at i) source middle
       → BatchAnswers r at spent w middle later after there
       → MatchResult r

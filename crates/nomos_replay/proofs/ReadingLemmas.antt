@@ -10,8 +10,8 @@ use Rattle.nomos_replay.specs.Spoiled.{Spoils}
 use Rattle.nomos_replay.specs.Stand.{Goes, MayStand, Stand}
 use Rattle.nomos_replay.specs.declared.error.ReplayError.{ReplayError}
 use Rattle.nomos_replay.specs.declared.error.ReplayError.TheVariants as error
-use Rattle.nomos_replay.specs.declared.source.Source.{Source}
-use Rattle.nomos_replay.specs.mirror.Reading.{Carries, HasRead, IsNoLine, Stops}
+use Rattle.nomos_replay.specs.declared.journal_lines.JournalLines.{JournalLines}
+use Rattle.nomos_replay.specs.mirror.JournalReading.{Carries, HasRead, IsNoLine, Stops}
 use Rattle.nomos_replay.proofs.LineLemmas.{one-line}
 
 pub small-unit : {a : Acceptance} → IsAccepted a → a.annotations.unit < 2 ^ 32
@@ -19,7 +19,7 @@ small-unit accepted = omega (arith, accepted.small_unit)
 
 module _ (a : Acceptance) (first : LedgerState) (all : List ScriptItem) where
   -- where no line is read the text is refused, wherever one is looked for
-  pub stops-no_line : (before : Source) (s : Stand) → WantsLine s before.lines → (e : ReplayError)
+  pub stops-no_line : (before : JournalLines) (s : Stand) → WantsLine s before.lines → (e : ReplayError)
       → IsNoLine a.annotations.unit before e → Stops a first all before s e
   stops-no_line before s wants error.NoMemory is = tt
   stops-no_line before s wants (error.BadLine at) is =
@@ -31,7 +31,7 @@ module _ (a : Acceptance) (first : LedgerState) (all : List ScriptItem) where
   stops-no_line before s wants (error.WrongEnd at kept found) is = absurd is
 
   -- a line that was read is bad where it has no form
-  pub stops-no_form : IsAccepted a → {before after : Source} {s : Stand} {l : JournalLine}
+  pub stops-no_form : IsAccepted a → {before after : JournalLines} {s : Stand} {l : JournalLine}
       → HasRead a.annotations.unit before l after → WantsLine s before.lines → ¬ MayStand s l
       → Reads a first all (before.at + 1) s before.lines (Err (error.BadLine after.at))
   stops-no_form accepted {before} {after} {s} {l} read wants none =
@@ -43,7 +43,7 @@ module _ (a : Acceptance) (first : LedgerState) (all : List ScriptItem) where
       none (subst (λ (x : JournalLine). MayStand s x) same.0 form)))
 
   -- a line that spoils the text
-  pub stops-spoiled : {before after : Source} {s : Stand} {l : JournalLine} {e : ReplayError}
+  pub stops-spoiled : {before after : JournalLines} {s : Stand} {l : JournalLine} {e : ReplayError}
       → HasRead a.annotations.unit before l after → Spoils a after.at s l e
       → Reads a first all (before.at + 1) s before.lines (Err e)
   stops-spoiled {before} {after} {s} {l} {e} read spoils =
@@ -51,7 +51,7 @@ module _ (a : Acceptance) (first : LedgerState) (all : List ScriptItem) where
       (subst (λ (n : ℕ). Spoils a n s l e) read.at spoils)
 
   -- a line that is right leads on
-  pub carries-line : {before after : Source} {s t : Stand} {l : JournalLine}
+  pub carries-line : {before after : JournalLines} {s t : Stand} {l : JournalLine}
       → HasRead a.annotations.unit before l after → Goes a first all s l t → Carries a first all before s after t
   carries-line {before} {after} {s} {t} {l} read goes = record {
     answers = λ answer rest.
@@ -60,16 +60,17 @@ module _ (a : Acceptance) (first : LedgerState) (all : List ScriptItem) where
   }
 
   -- what leads on leads on further
-  pub carries-on : {before middle after : Source} {r s t : Stand} → Carries a first all before r middle s
+  pub carries-on : {before middle after : JournalLines} {r s t : Stand} → Carries a first all before r middle s
       → Carries a first all middle s after t → Carries a first all before r after t
   carries-on one other = record { answers = λ answer rest. one.answers answer (other.answers answer rest) }
 
   -- and so it does without a line
-  pub carries-same : (source : Source) (s : Stand) → Carries a first all source s source s
+  pub carries-same : (source : JournalLines) (s : Stand) → Carries a first all source s source s
   carries-same source s = record { answers = λ answer rest. rest }
 
   -- where the text is refused later it is refused
-  pub stops-later : {before after : Source} {s t : Stand} → Carries a first all before s after t → (e : ReplayError)
+  pub stops-later : {before after : JournalLines} {s t : Stand} → Carries a first all before s after t
+      → (e : ReplayError)
       → Stops a first all after t e → Stops a first all before s e
   stops-later carries error.NoMemory stops = tt
   stops-later carries error.TooLong stops = carries.answers (Err error.TooLong) stops

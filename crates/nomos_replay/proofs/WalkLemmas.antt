@@ -35,10 +35,10 @@ use Rattle.nomos_script.specs.WrittenItems.{AreWritten}
 use Rattle.nomos_replay.specs.declared.answering.ToldText.{ToldText}
 use Rattle.nomos_replay.specs.declared.error.ReplayError.{ReplayError}
 use Rattle.nomos_replay.specs.declared.error.ReplayError.TheVariants as error
-use Rattle.nomos_replay.specs.declared.item.Reading.{Reading}
-use Rattle.nomos_replay.specs.declared.source.Source.{Source}
+use Rattle.nomos_replay.specs.declared.told_item.Reading.{Reading}
+use Rattle.nomos_replay.specs.declared.journal_lines.JournalLines.{JournalLines}
 use Rattle.nomos_replay.specs.mirror.Items.{AllTold, ArePapersOf, IsAnswered, IsLegalText, PassesOn, ToldUpTo, report_alone, told_of}
-use Rattle.nomos_replay.specs.mirror.Reading.{Carries, Stops}
+use Rattle.nomos_replay.specs.mirror.JournalReading.{Carries, Stops}
 use Rattle.nomos_replay.proofs.FormLaws.{journal-form-from}
 use Rattle.nomos_replay.proofs.LegalTextLaws.{answer-legal}
 use Rattle.nomos_replay.proofs.LengthLaws.{journal-within}
@@ -64,7 +64,8 @@ module _ (a : Acceptance) (v : Version) (first : LedgerState) (limit : ℕ) (wan
     carries = λ all. carries-same a first all reading.source (before v (nothing_told first limit) items);
   }
 
-  module _ {source : Source} {items done left : List ScriptItem} {later : Reading} {l : LedgerState} {w : WalkState}
+  module _ {source : JournalLines} {items done left : List ScriptItem} {later : Reading} {l : LedgerState}
+      {w : WalkState}
       (so : ToldUpTo a v first limit wanted source items done left later l w) where
     -- the program is that of the walk
     pub told-accepted : w.accepted ≡ a
@@ -83,14 +84,15 @@ module _ (a : Acceptance) (v : Version) (first : LedgerState) (limit : ℕ) (wan
     told-limit = sym (ap (λ (x : WalkState). batch_limit x.limit x.made) so.come.walk)
 
   -- there is room for the next item
-  pub told-room : {source : Source} (items : List ScriptItem) (n : ℕ) {left : List ScriptItem} {later : Reading}
+  pub told-room : {source : JournalLines} (items : List ScriptItem) (n : ℕ) {left : List ScriptItem} {later : Reading}
       {l : LedgerState} {w : WalkState} → ToldUpTo a v first limit wanted source items (take n items) left later l w
       → IsAccepted a → StandsNamed a first → HasNumbered (2 ^ 31) first.state → length first.accounts < 2 ^ 31
       → (i : ScriptItem) → IsScriptSize items → take (n + 1) items ≡ take n items ++ i ∷ [] → HasRoomFor w l i
   told-room items n so accepted standing numbers few i size more =
       come-room items n so.come accepted standing numbers few i size more
 
-  module _ {source : Source} {items done : List ScriptItem} (i : ScriptItem) {rest : List ScriptItem} {later : Reading}
+  module _ {source : JournalLines} {items done : List ScriptItem} (i : ScriptItem) {rest : List ScriptItem}
+      {later : Reading}
       {l : LedgerState} {w : WalkState} (so : ToldUpTo a v first limit wanted source items done (i ∷ rest) later l
       w) where
     -- one item more
@@ -121,7 +123,7 @@ module _ (a : Acceptance) (v : Version) (first : LedgerState) (limit : ℕ) (wan
         → (all : List ScriptItem) → Stops a first all source (before v (nothing_told first limit) items) e
     told-stops e stops all = stops-later a first all (so.carries all) e (stops first all rest)
 
-  module _ {source : Source} {items : List ScriptItem} {later : Reading} {l : LedgerState} {w : WalkState}
+  module _ {source : JournalLines} {items : List ScriptItem} {later : Reading} {l : LedgerState} {w : WalkState}
       (so : ToldUpTo a v first limit wanted source items items [] later l w) where
     -- all is told where the text ends there
     pub told-all : {M : Type 0} (whole : ToldText M) → later.source.lines ≡ []
@@ -167,7 +169,7 @@ module _ (a : Acceptance) (first : LedgerState) (items : List ScriptItem) (text 
 
   -- what is told to the end of the text is answered
   pub answered : {M : Type 0} → length text ≤ max_bytes → (v : Version) (limit : ℕ) (wanted : WantedTexts)
-      (source : Source) (whole : ToldText M)
+      (source : JournalLines) (whole : ToldText M)
       → Carries a first items (record { lines = text; at = 0 }) at_head source
       (before v (nothing_told first limit) items)
       → AllTold a v first limit wanted source items whole → IsAnswered a first items text wanted whole
@@ -286,7 +288,7 @@ module _ (a : Acceptance) (first : LedgerState) (items : List ScriptItem) (text 
 
 -- what is answered of the items is answered of the text
 module _ (a : Acceptance) (first : LedgerState) (items : List ScriptItem) (text : List ℕ)
-    (within : length text ≤ max_bytes) (v : Version) (limit : ℕ) (wanted : WantedTexts) (source : Source)
+    (within : length text ≤ max_bytes) (v : Version) (limit : ℕ) (wanted : WantedTexts) (source : JournalLines)
     (carries : Carries a first items (record { lines = text; at = 0 }) at_head source
     (before v (nothing_told first limit) items)) where
   pub answer-all : {M : Type 0} (r : Result (ToldText M) ReplayError)

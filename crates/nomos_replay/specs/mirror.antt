@@ -1,5 +1,5 @@
 -- Mirrors of the code, on which no promise stands.
-pub mod Reading
-pub mod Running
+pub mod JournalReading
+pub mod BatchUnderWay
 pub mod Items
 pub mod VersionOne

@@ -13,12 +13,12 @@ ghost use Rattle.nomos_replay.specs.Replayed.{IsRefusedFrom};
 ghost use Rattle.nomos_replay.specs.Stand.{before};
 ghost use Rattle.nomos_replay.specs.Told.{nothing_told};
 ghost use Rattle.nomos_replay.specs.mirror.Items.{AllTold, IsAnswered, ToldUpTo};
-ghost use Rattle.nomos_replay.specs.mirror.Reading.{IsCounted, Stops};
+ghost use Rattle.nomos_replay.specs.mirror.JournalReading.{IsCounted, Stops};
 
 use crate::error::ReplayError;
 use crate::heading::{read_limit, read_version};
-use crate::item::{Reading, replay_item};
-use crate::source::Source;
+use crate::journal_lines::JournalLines;
+use crate::told_item::{Reading, replay_item};
 use crate::trial::Trial;
 use nomos_deeds::undo::Undo;
 use nomos_ir::items::Items;
@@ -38,7 +38,7 @@ pub const MAX_BYTES: usize = 1_073_741_824;
 
 /// What the text of a journal is read for: the script whose journal it is, and what is to be written of it.
 #[derive(Clone, Copy)]
-pub(crate) struct Asked<'a> {
+pub(crate) struct AskedOfText<'a> {
     pub(crate) script: &'a Script,
     pub(crate) wanted: WantedTexts,
 }
@@ -113,7 +113,7 @@ fn whole<M: Undo>(walk: Walk<'_>, limit: u32, entries: Vec<Entry>, ledger: Ledge
 // Reads and carries out the items of a script from a ledger, behind which the text has to end.
 fn replay_all<M: Undo + Drop>(
     trial: &Trial<'_>,
-    source: Source<'_>,
+    source: JournalLines<'_>,
     limit: u32,
     from: Ledger<M>,
     script: &Script,
@@ -148,7 +148,7 @@ pub(crate) fn answer<M: Undo + Drop>(
     alloc: Global,
     accepted: &Accepted,
     from: Ledger<M>,
-    asked: Asked<'_>,
+    asked: AskedOfText<'_>,
     bytes: &[u8],
 ) -> Result<ToldText<M>, ReplayError>
     requires stands { StandsFor accepted.now from }
@@ -163,7 +163,7 @@ pub(crate) fn answer<M: Undo + Drop>(
     if bytes.len() > MAX_BYTES {
         return Err(ReplayError::TooLong);
     }
-    let mut source = Source {
+    let mut source = JournalLines {
         lines: TextLines::new(bytes),
         at: 0,
     };

@@ -6,23 +6,23 @@ ghost use Rattle.nomos_types.specs.Acceptance.{Acceptance};
 ghost use Rattle.nomos_machine.specs.State.{State};
 ghost use Rattle.nomos_legal.specs.Ending.{EndsAs, GoesOn, IsAllowed};
 ghost use Rattle.nomos_legal.specs.StandsFor.{WorldStandsFor};
-ghost use Rattle.nomos_watch.specs.Watching.{IsWatched};
+ghost use Rattle.nomos_ledger.specs.Watching.{IsWatched};
 ghost use Rattle.nomos_replay.specs.Spoiled.{Finds};
-ghost use Rattle.nomos_replay.specs.mirror.Running.{EndStops};
+ghost use Rattle.nomos_replay.specs.mirror.BatchUnderWay.{EndStops};
 
 use crate::error::ReplayError;
 use crate::same::is_same_end;
 use nomos_deeds::undo::Undo;
 use nomos_ir::fault::Fault;
+use nomos_ledger::watched::Watched;
 use nomos_ledger::world::World;
 use nomos_legal::journal::End;
 use nomos_types::accepted::Accepted;
-use nomos_watch::watched::Watched;
 use std::alloc::{AllocError, Global};
 
 /// An end that is kept, and the number of its line in the text.
 #[derive(Drop)]
-pub(crate) struct Kept {
+pub(crate) struct KeptEnd {
     pub(crate) at: u32,
     pub(crate) end: End,
 }
@@ -105,7 +105,7 @@ pub(crate) fn judge_end<M: Undo>(
     accepted: &Accepted,
     watched: &mut Watched<M>,
     most: u32,
-    kept: Kept,
+    kept: KeptEnd,
 ) -> Result<End, ReplayError>
     requires stands { WorldStandsFor accepted.now watched.old.world }
     requires watched { IsWatched accepted.now watched.old.world.state watched.old.awake }
@@ -115,7 +115,7 @@ pub(crate) fn judge_end<M: Undo>(
         × IsAllowed accepted.now watched.old.world.state (length watched.old.world.firings) most end)
         (EndStops accepted.now watched.old.world.state (length watched.old.world.firings) most kept) }
 {
-    let Kept { at, end } = kept;
+    let KeptEnd { at, end } = kept;
     let given = watched.end(accepted, most);
     if may_end(alloc, accepted, &watched.world, most, &given, &end)? {
         return Ok(end);

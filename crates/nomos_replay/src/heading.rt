@@ -7,11 +7,11 @@ ghost use Rattle.nomos_legal.specs.Legal.{IsLimit};
 ghost use Rattle.nomos_journal.specs.declared.line.Version.{Version};
 ghost use Rattle.nomos_replay.specs.Stand.{at_head, at_steps, before};
 ghost use Rattle.nomos_replay.specs.Told.{nothing_told};
-ghost use Rattle.nomos_replay.specs.mirror.Reading.{Carries, IsCounted, Stops};
+ghost use Rattle.nomos_replay.specs.mirror.JournalReading.{Carries, IsCounted, Stops};
 
 use crate::error::ReplayError;
-use crate::kinds::{limit_in, version_in};
-use crate::source::Source;
+use crate::journal_lines::JournalLines;
+use crate::line_kinds::{limit_in, version_in};
 use nomos_journal::line::Version;
 use nomos_types::accepted::Accepted;
 use std::alloc::Global;
@@ -20,7 +20,7 @@ use std::alloc::Global;
 pub(crate) fn read_version(
     alloc: Global,
     accepted: &Accepted,
-    source: &mut Source<'_>,
+    source: &mut JournalLines<'_>,
 ) -> Result<Version, ReplayError>
     requires { IsCounted source.old }
     ensures read { (first : LedgerState) (all : List ScriptItem) → MatchResult result
@@ -41,7 +41,7 @@ pub(crate) fn read_version(
 pub(crate) fn read_limit(
     alloc: Global,
     accepted: &Accepted,
-    source: &mut Source<'_>,
+    source: &mut JournalLines<'_>,
 ) -> Result<u32, ReplayError>
     requires { IsCounted source.old }
     ensures read { (first : LedgerState) (all : List ScriptItem) (v : Version) → MatchResult result

@@ -3,17 +3,17 @@
 #![tactic(auto)]
 
 mod answering;
-mod batch;
 mod ends;
 pub mod error;
-mod firing;
 mod heading;
-mod item;
-mod kinds;
+mod journal_lines;
+mod line_kinds;
 pub mod refused;
 pub mod replay;
 pub mod retelling;
 mod same;
-mod source;
+mod told_batch;
+mod told_firing;
+mod told_item;
 mod trial;
 mod version_one;

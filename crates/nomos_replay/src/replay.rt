@@ -11,7 +11,7 @@ ghost use Rattle.nomos_replay.specs.Replayed.{HasReplayed, HasReplayedFrom, IsRe
 ghost use Rattle.nomos_replay.specs.declared.error.ReplayError.{ReplayError};
 
 pub use crate::answering::MAX_BYTES;
-use crate::answering::{Asked, ToldText, answer};
+use crate::answering::{AskedOfText, ToldText, answer};
 use crate::error::ReplayError;
 use nomos_deeds::undo::Undo;
 use nomos_ledger::ledger::Ledger;
@@ -91,7 +91,7 @@ pub fn replay_from<M: Undo + Drop>(
         text: false,
         result: false,
     };
-    let whole = answer(alloc, accepted, from, Asked { script, wanted }, bytes)?;
+    let whole = answer(alloc, accepted, from, AskedOfText { script, wanted }, bytes)?;
     Ok(with_report(whole))
 }
 

@@ -9,7 +9,7 @@ ghost use Rattle.nomos_journal.specs.declared.line.Version.TheVariants as versio
 ghost use Rattle.nomos_report.specs.Reported.{IsReport, IsReportFrom};
 ghost use Rattle.nomos_replay.specs.mirror.Items.{ArePapersOf};
 
-use crate::answering::{Asked, answer};
+use crate::answering::{AskedOfText, answer};
 use crate::error::ReplayError;
 use crate::version_one::text_in_one;
 use nomos_deeds::undo::Undo;
@@ -35,7 +35,7 @@ fn papers_by<M: Undo + Drop>(
     alloc: Global,
     accepted: &Accepted,
     from: Ledger<M>,
-    asked: Asked<'_>,
+    asked: AskedOfText<'_>,
     journal: &Journal,
 ) -> Result<Papers, AllocError>
     requires stands { StandsFor accepted.now from }
@@ -77,7 +77,13 @@ pub fn report_from<M: Undo + Drop>(
         text: false,
         result: false,
     };
-    let papers = papers_by(alloc, accepted, from, Asked { script, wanted }, journal)?;
+    let papers = papers_by(
+        alloc,
+        accepted,
+        from,
+        AskedOfText { script, wanted },
+        journal,
+    )?;
     match papers.report.into_text() {
         Some(report) => Ok(report),
         None => unreachable!(),
@@ -113,7 +119,13 @@ pub fn journal_text<M: Undo + Drop>(
         result: false,
     };
     let from = Ledger::<M>::empty(alloc);
-    let papers = papers_by(alloc, accepted, from, Asked { script, wanted }, journal)?;
+    let papers = papers_by(
+        alloc,
+        accepted,
+        from,
+        AskedOfText { script, wanted },
+        journal,
+    )?;
     match papers.text.into_text() {
         Some(text) => Ok(text),
         None => unreachable!(),

@@ -18,8 +18,8 @@ use Rattle.nomos_deeds.specs.Lowest.{LowestOver, NoneOver}
 use Rattle.nomos_deeds.specs.Readers.{IsLinearName, IsLinearType, looks_linear}
 use Rattle.nomos_deeds.proofs.LinearNameLaws.{looks-linear}
 use Rattle.nomos_deeds.proofs.LowestLaws.{over-each}
-use Rattle.nomos_report.specs.Shown.{channel_line, owner_line}
-use Rattle.nomos_report.specs.mirror.Naming.{line_at, name_line}
+use Rattle.nomos_report.specs.ShownState.{channel_line, owner_line}
+use Rattle.nomos_report.specs.mirror.NamedLines.{line_at, name_line}
 use Rattle.nomos_report.specs.mirror.Walked.{walked}
 use Rattle.nomos_report.proofs.WalkLemmas.{walked-all, walked-next, walked-none}
 

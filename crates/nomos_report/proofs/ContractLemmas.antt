@@ -13,7 +13,7 @@ use Rattle.nomos_machine.specs.declared.object.Process.{Process}
 use Rattle.nomos_machine.proofs.PutLaws.{object_at-own}
 use Rattle.nomos_deeds.specs.Readers.{keeper, stands_for, view_of}
 use Rattle.nomos_deeds.specs.declared.machine.View.{View}
-use Rattle.nomos_report.specs.Shown.{contract_line, held_text, standing_for}
+use Rattle.nomos_report.specs.ShownState.{contract_line, held_text, standing_for}
 
 -- what is found is there
 found-there : {X : Type 0} (test : X → Bool) (xs : List X) (x : X) → find test xs ≡ Some x → Contains xs x

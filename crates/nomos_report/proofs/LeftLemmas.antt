@@ -15,9 +15,9 @@ use Rattle.nomos_machine.specs.declared.object.Process.{Process}
 use Rattle.nomos_machine.proofs.PutLaws.{object_at-found, object_at-own}
 use Rattle.nomos_deeds.specs.Lowest.{LowestOver, NoneOver}
 use Rattle.nomos_deeds.specs.Readers.{IsTransaction, IsWaiting, acquires, keeper, waits}
-use Rattle.nomos_report.specs.Lines.{line}
+use Rattle.nomos_report.specs.ReportLines.{line}
 use Rattle.nomos_report.specs.Reported.{left_line, left_lines, waits_line, waits_lines}
-use Rattle.nomos_report.specs.mirror.Naming.{waiting_line}
+use Rattle.nomos_report.specs.mirror.NamedLines.{waiting_line}
 use Rattle.nomos_report.specs.mirror.Walked.{walked}
 use Rattle.nomos_report.proofs.WalkLemmas.{walked-all, walked-next, walked-none, walked-silent}
 

@@ -47,7 +47,7 @@ use Rattle.nomos_legal.proofs.RightLaws.{batch-started, passage-standing}
 use Rattle.nomos_legal.proofs.WorldLaws.{settled-reached}
 use Rattle.nomos_report.specs.NothingLeftOut.{HasContractLine, HasOwnerLine, LeavesNothingOut, ShowsAll, ShowsWaits}
 use Rattle.nomos_report.specs.Reported.{IsReportFrom, waits_line}
-use Rattle.nomos_report.specs.Shown.{channel_line, contract_line, owner_line, standing_for}
+use Rattle.nomos_report.specs.ShownState.{channel_line, contract_line, owner_line, standing_for}
 
 -- ---- who stands for a shared name
 

@@ -12,7 +12,7 @@ use Rattle.nomos_legal.specs.declared.journal.End.{End}
 use Rattle.nomos_legal.specs.declared.journal.Firing.{Firing}
 use Rattle.nomos_report.specs.Block.{accepted_block}
 use Rattle.nomos_report.specs.Reported.{end_lines, passage_lines, report_of, shown_lines}
-use Rattle.nomos_report.specs.Shown.{show_lines}
+use Rattle.nomos_report.specs.ShownState.{show_lines}
 
 -- of a `show` its ledger
 pub show-printed : (a : Acceptance) (l : LedgerState) (line : ℕ)

@@ -15,7 +15,7 @@ use Rattle.nomos_legal.specs.declared.journal.End.TheVariants as end
 use Rattle.nomos_legal.specs.declared.refusal.Refusal.TheVariants as refusal
 use Rattle.nomos_report.specs.Block.{accepted_block}
 use Rattle.nomos_report.specs.Reported.{end_lines}
-use Rattle.nomos_report.specs.Shown.{show_lines}
+use Rattle.nomos_report.specs.ShownState.{show_lines}
 
 -- a unit has two parts
 abbrev halves : Acceptance

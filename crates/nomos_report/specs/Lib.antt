@@ -1,6 +1,6 @@
-pub mod Lines
+pub mod ReportLines
 pub mod Block
-pub mod Shown
+pub mod ShownState
 pub mod Reported
 pub mod NothingLeftOut
 pub mod mirror

@@ -17,7 +17,7 @@ use Rattle.nomos_deeds.specs.Readers.{IsLinearType, acquires}
 use Rattle.nomos_legal.specs.Ledger.{LedgerState}
 use Rattle.nomos_legal.specs.Passage.{Passage}
 use Rattle.nomos_report.specs.Reported.{waits_line, waits_lines}
-use Rattle.nomos_report.specs.Shown.{channel_line, contract_line, named_line, owner_line}
+use Rattle.nomos_report.specs.ShownState.{channel_line, contract_line, named_line, owner_line}
 
 -- The line of a contract is that of a process which is there and stands for the contract's shared name.
 pub record HasContractLine (unit : ℕ) (objects : List Object) (c : List ℕ × ℕ) : Type 0 where

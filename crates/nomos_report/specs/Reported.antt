@@ -22,10 +22,10 @@ use Rattle.nomos_legal.specs.declared.journal.End.TheVariants as end
 use Rattle.nomos_legal.specs.declared.journal.Entry.{Entry}
 use Rattle.nomos_legal.specs.declared.journal.Journal.{Journal}
 use Rattle.nomos_texts.specs.End.{end_text}
-use Rattle.nomos_texts.specs.Value.{value_text}
+use Rattle.nomos_texts.specs.ValueTexts.{value_text}
 use Rattle.nomos_report.specs.Block.{accepted_block}
-use Rattle.nomos_report.specs.Lines.{line, line_of}
-use Rattle.nomos_report.specs.Shown.{show_lines}
+use Rattle.nomos_report.specs.ReportLines.{line, line_of}
+use Rattle.nomos_report.specs.ShownState.{show_lines}
 
 -- `result PID VALUE`
 abbrev pub result_line : ℕ × Value → List ℕ

@@ -9,18 +9,18 @@ ghost use Rattle.nomos_machine.specs.TypedState.{IsTyped};
 ghost use Rattle.nomos_legal.specs.StandsFor.{WorldStandsFor};
 ghost use Rattle.nomos_legal.specs.World.{ledger_begun};
 ghost use Rattle.nomos_texts.specs.End.{end_text};
-ghost use Rattle.nomos_report.specs.Lines.{line_of};
+ghost use Rattle.nomos_report.specs.ReportLines.{line_of};
 ghost use Rattle.nomos_report.specs.Reported.{HasNoFirings, end_lines, firings_text, result_line};
 
 use crate::left::{push_left, push_waits};
-use crate::lines::{push_amount_line, push_counted, push_front};
+use crate::report_lines::{push_amount_line, push_counted, push_front};
 use nomos_deeds::machine::Machine;
 use nomos_deeds::undo::Undo;
 use nomos_ir::value::Value;
 use nomos_ledger::world::World;
 use nomos_legal::journal::End;
 use nomos_texts::end::push_end;
-use nomos_texts::value::push_value;
+use nomos_texts::value_texts::push_value;
 use nomos_types::accepted::Accepted;
 use std::alloc::AllocError;
 

@@ -4,11 +4,11 @@ ghost use Rattle.std.specs.Prelude.{◌≡◌, ◌<◌, ◌++◌, ℕ, codes, de
 ghost use Rattle.std.specs.List.{flat_map};
 ghost use Rattle.nomos_deeds.specs.Readers.{IsTransaction};
 ghost use Rattle.nomos_machine.specs.TypedState.{IsTyped, Numbered};
-ghost use Rattle.nomos_report.specs.Lines.{line};
+ghost use Rattle.nomos_report.specs.ReportLines.{line};
 ghost use Rattle.nomos_report.specs.Reported.{left_lines, waits_lines};
-ghost use Rattle.nomos_report.specs.mirror.Naming.{waiting_line};
+ghost use Rattle.nomos_report.specs.mirror.NamedLines.{waiting_line};
 
-use crate::lines::push_counted;
+use crate::report_lines::push_counted;
 use nomos_deeds::machine::Machine;
 use nomos_types::accepted::Accepted;
 use std::alloc::AllocError;

@@ -4,5 +4,5 @@
 pub mod block;
 pub mod course;
 mod left;
-mod lines;
+mod report_lines;
 pub mod show;

@@ -8,11 +8,11 @@ ghost use Rattle.nomos_machine.specs.Objects.{purse_of};
 ghost use Rattle.nomos_machine.specs.State.{gas_of};
 ghost use Rattle.nomos_machine.specs.TypedState.{IsTyped, Numbered};
 ghost use Rattle.nomos_legal.specs.StandsFor.{StandsFor};
-ghost use Rattle.nomos_report.specs.Lines.{line};
-ghost use Rattle.nomos_report.specs.Shown.{account_line, channel_line, held_text, named_line, owner_line, show_lines};
-ghost use Rattle.nomos_report.specs.mirror.Naming.{name_line};
+ghost use Rattle.nomos_report.specs.ReportLines.{line};
+ghost use Rattle.nomos_report.specs.ShownState.{account_line, channel_line, held_text, named_line, owner_line, show_lines};
+ghost use Rattle.nomos_report.specs.mirror.NamedLines.{name_line};
 
-use crate::lines::{push_amount_line, push_counted, push_front, push_named, push_word};
+use crate::report_lines::{push_amount_line, push_counted, push_front, push_named, push_word};
 use nomos_base::push_gas;
 use nomos_deeds::machine::{Machine, View};
 use nomos_deeds::undo::Undo;

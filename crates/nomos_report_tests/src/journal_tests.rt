@@ -1,9 +1,9 @@
 //! Tests: what journals tell, by one worker and by several, and which are refused.
 ghost use Rattle.nomos_workers.specs.Crews.{IsCrew};
 
-use crate::auction::{TWO_BIDS, TWO_BIDS_REPORT};
+use crate::auction_script::{TWO_BIDS, TWO_BIDS_REPORT};
 use crate::contracts::HALVES;
-use crate::telling::{accepted_of, answer, expect_bytes, replayed, script_of, tell, tell_by};
+use crate::told_scripts::{accepted_of, answer, expect_bytes, replayed, script_of, tell, tell_by};
 use nomos_machine::policy::Policy;
 use nomos_words::load::auction_text;
 use nomos_workers::batch::Crew;

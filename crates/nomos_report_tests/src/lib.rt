@@ -2,7 +2,7 @@
 #![tactic(auto)]
 
 #[cfg(test)]
-mod auction;
+mod auction_script;
 #[cfg(test)]
 mod contracts;
 #[cfg(test)]
@@ -14,4 +14,4 @@ mod retelling_tests;
 #[cfg(test)]
 mod start_tests;
 #[cfg(test)]
-mod telling;
+mod told_scripts;

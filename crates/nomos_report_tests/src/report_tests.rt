@@ -1,8 +1,8 @@
 //! Tests: what is printed of batches, of those that stay and of those that are undone, and of ledgers.
 
-use crate::auction::{TWO_BIDS, TWO_BIDS_REPORT};
+use crate::auction_script::{TWO_BIDS, TWO_BIDS_REPORT};
 use crate::contracts::{CELLS, COUNTDOWN, CROSSED, DIVISION, HALVES, TWO_DIVIDE};
-use crate::telling::{Case, expect_bytes, expect_reports, tell};
+use crate::told_scripts::{ScriptCase, expect_bytes, expect_reports, tell};
 use nomos_machine::policy::Policy;
 use nomos_words::load::auction_text;
 use nomos_workers::batch::Crew;
@@ -45,7 +45,7 @@ proc T t(;) = spawn s = c(;); acquire s as x; release x as s2; close;
 ";
 
 // Batches that stay.
-const STAYING: [Case<'static>; 7] = [
+const STAYING: [ScriptCase<'static>; 7] = [
     (
         TALKS,
         ONCE,
@@ -180,7 +180,7 @@ proc T t(; a: cell) = acquire a as x; release x as b; close;
 ";
 
 // Ledgers that are shown.
-const SHOWN: [Case<'static>; 4] = [
+const SHOWN: [ScriptCase<'static>; 4] = [
     (
         "",
         "show
@@ -306,7 +306,7 @@ proc T add(n: int;) = emit n + 1; close;
 ";
 
 // Batches that are undone.
-const UNDONE: [Case<'static>; 4] = [
+const UNDONE: [ScriptCase<'static>; 4] = [
     (
         CELLS,
         CROSSED,

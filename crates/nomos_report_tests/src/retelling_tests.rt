@@ -1,9 +1,9 @@
 //! Tests: what is made of a journal is what was made while its script ran.
 ghost use Rattle.nomos_legal.specs.Legal.{IsLegal};
 
-use crate::auction::TWO_BIDS;
+use crate::auction_script::TWO_BIDS;
 use crate::contracts::{CELLS, CROSSED, DIVISION, HALVES, TWO_DIVIDE};
-use crate::telling::{Told, accepted_of, expect_bytes, ran, script_of};
+use crate::told_scripts::{ToldScript, accepted_of, expect_bytes, ran, script_of};
 use nomos_legal::journal::Journal;
 use nomos_machine::policy::Policy;
 use nomos_named::indexed::IndexedState;
@@ -25,7 +25,7 @@ fn journal_of<R: Abort + AllocGlobal + Threads + Wait + Sync>(
     accepted: &Accepted,
     script: &Script,
     policy: Policy,
-) -> (Journal, Told)
+) -> (Journal, ToldScript)
     ensures { IsLegal accepted.now script.now result.0 }
 {
     let orders = Orders {
@@ -48,7 +48,7 @@ fn journal_of<R: Abort + AllocGlobal + Threads + Wait + Sync>(
     let Some(text) = text else {
         panic!(rt; "no text of the journal")
     };
-    let told = Told {
+    let told = ToldScript {
         report,
         journal: text,
     };

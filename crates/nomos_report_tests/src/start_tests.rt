@@ -1,7 +1,7 @@
 //! Tests: which lines of a script can start, why others can not, and which deposits are too much.
 
 use crate::contracts::CELLS;
-use crate::telling::{Case, expect_bytes, expect_reports, tell_by};
+use crate::told_scripts::{ScriptCase, expect_bytes, expect_reports, tell_by};
 use nomos_machine::policy::Policy;
 use std::test::Fail;
 
@@ -150,7 +150,7 @@ deposits 2
 ";
 
 // Lines that could not start.
-const REFUSALS: [Case<'static>; 4] = [
+const REFUSALS: [ScriptCase<'static>; 4] = [
     (
         "proc T f(;) {3} = work {3}; close;
 ",

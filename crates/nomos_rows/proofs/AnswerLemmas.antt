@@ -11,7 +11,7 @@ use Rattle.nomos_equality.proofs.PathLaws.{there-below}
 use Rattle.nomos_equality.specs.Comparing.{Compared, nothing_compared}
 use Rattle.nomos_equality.specs.declared.hop.Hop.{Hop}
 use Rattle.nomos_forms.specs.declared.row_list.RowList.{RowList}
-use Rattle.nomos_sync.proofs.SyncLaws.{offends-not_synchronizing}
+use Rattle.nomos_equality.proofs.SyncLaws.{offends-not_synchronizing}
 use Rattle.nomos_types.specs.Derivation.{Derives}
 use Rattle.nomos_types.specs.Equality.{no_amounts}
 use Rattle.nomos_types.specs.Judgement.{start_of}
@@ -20,14 +20,14 @@ use Rattle.nomos_types.specs.Typed.{IsWellFormed}
 use Rattle.nomos_check.proofs.RowsLaws.{derives-skeleton}
 use Rattle.nomos_check.proofs.StuckLaws.{stuck-no_skeleton}
 use Rattle.nomos_rows.specs.declared.program_rows.RowsError.TheVariants as error
-use Rattle.nomos_rows.specs.declared.telling.Fault.{Fault}
-use Rattle.nomos_rows.specs.declared.telling.Fault.TheVariants as fault
+use Rattle.nomos_rows.specs.declared.first_fault.DeclarationFault.{DeclarationFault}
+use Rattle.nomos_rows.specs.declared.first_fault.DeclarationFault.TheVariants as fault
 use Rattle.nomos_rows.specs.PartFaults.{LeadsAstray, HasOtherKind, GetsStuck, IsNeverTyped, IsCause}
 use Rattle.nomos_rows.specs.ProgramRows.{IsProgramPair, leads_back, asked}
 use Rattle.nomos_rows.specs.mirror.PartAnswers.{error_of, HasRows}
 use Rattle.nomos_rows.specs.mirror.Declarations.{IsFirstOfAll}
 use Rattle.nomos_rows.specs.mirror.Processes.{AsksFor, InRows}
-use Rattle.nomos_rows.specs.mirror.Telling.{SomeBelow, TellsBelow}
+use Rattle.nomos_rows.specs.mirror.FirstFault.{SomeBelow, TellsBelow}
 use Rattle.nomos_rows.specs.mirror.Ups.{GoesAstray, GoesBack, PairsBelow}
 
 module _ {lists : ProgramLists} where
@@ -76,7 +76,7 @@ module _ {lists : ProgramLists} where
   back-synchronizing back t a up = back t.0 (there-below lists t.0 _ up) a up
 
   -- the first fault of a function or a process is the cause
-  pub fault-cause : IsSynchronizing lists no_amounts → (at : ℕ) (f : Fault) → IsFirstOfAll lists (at, f)
+  pub fault-cause : IsSynchronizing lists no_amounts → (at : ℕ) (f : DeclarationFault) → IsFirstOfAll lists (at, f)
       → IsCause lists (error_of at f)
   fault-cause synchronizing at fault.OtherKind (other, first) = (synchronizing, other, first, other-never at other)
   fault-cause synchronizing at (fault.Stuck form) (stuck, first) =

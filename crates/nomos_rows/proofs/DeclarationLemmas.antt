@@ -13,13 +13,13 @@ use Rattle.nomos_forms.specs.declared.form.Form.{Form}
 use Rattle.nomos_forms.specs.declared.row.Row.{Row}
 use Rattle.nomos_forms.specs.RowsOf.{AreRowsOf}
 use Rattle.nomos_rows.proofs.TellingLemmas.{le_from, lt_from}
-use Rattle.nomos_rows.specs.declared.telling.Fault.{Fault}
-use Rattle.nomos_rows.specs.declared.telling.Fault.TheVariants as fault
+use Rattle.nomos_rows.specs.declared.first_fault.DeclarationFault.{DeclarationFault}
+use Rattle.nomos_rows.specs.declared.first_fault.DeclarationFault.TheVariants as fault
 use Rattle.nomos_ir.specs.FirstOffset.{NoneBefore}
 use Rattle.nomos_rows.specs.PartFaults.{HasOtherKind, GetsStuck, IsFaulty}
 use Rattle.nomos_rows.specs.mirror.Declarations.{FunctionFault, FunctionFine, ProcessFault, ProcessFine, IsFaultAt, DeclarationsFine, DeclarationsTell}
 use Rattle.nomos_rows.specs.mirror.Processes.{Gathers, InRows}
-use Rattle.nomos_rows.specs.mirror.Telling.{earliest, TellsBelow}
+use Rattle.nomos_rows.specs.mirror.FirstFault.{earliest, TellsBelow}
 use Rattle.nomos_rows.specs.mirror.Ups.{IfNone}
 
 -- the star numbers of amounts such as a program has are at most 64
@@ -49,13 +49,13 @@ module _ (lists : ProgramLists) where
   program-few_stars is_program = few-stars (amounts_of lists) is_program.amounts
 
   -- what is told of functions, and of processes
-  abbrev FunctionsTell : Option (ℕ × Fault) → Type 0
+  abbrev FunctionsTell : Option (ℕ × DeclarationFault) → Type 0
   FunctionsTell = TellsBelow (FunctionFault lists) (FunctionFine lists) (length lists.fns)
 
-  abbrev ProcessesTell : Option (ℕ × Fault) → Type 0
+  abbrev ProcessesTell : Option (ℕ × DeclarationFault) → Type 0
   ProcessesTell = TellsBelow (ProcessFault lists) (ProcessFine lists) (length lists.procs)
 
-  function-at : (k at : ℕ) (f : Fault) → FunctionFault lists k at f → IsFaultAt lists at f
+  function-at : (k at : ℕ) (f : DeclarationFault) → FunctionFault lists k at f → IsFaultAt lists at f
   function-at k at f given =
       subst (IsFaultAt lists at) (sym given.is)
       (record {
@@ -67,13 +67,14 @@ module _ (lists : ProgramLists) where
             given.other;
       })
 
-  process-at : (k at : ℕ) (f : Fault) → ProcessFault lists k at f → IsFaultAt lists at f
+  process-at : (k at : ℕ) (f : DeclarationFault) → ProcessFault lists k at f → IsFaultAt lists at f
   process-at k at f given =
       subst (IsFaultAt lists at) (sym given.is)
       (record { place = k; declaration = given.declaration; declared = given.declared; stuck = given.stuck })
 
   -- no function comes first
-  functions-after : (least at : ℕ) → ((k n : ℕ) (f : Fault) → k < length lists.fns → FunctionFault lists k n f
+  functions-after : (least at : ℕ) → ((k n : ℕ) (f : DeclarationFault) → k < length lists.fns
+      → FunctionFault lists k n f
       → least ≤ n) → HasOtherKind lists at → least ≤ at
   functions-after least at first other =
       first other.place at fault.OtherKind (slice_get_within lists.fns other.place other.function other.declared)
@@ -86,7 +87,7 @@ module _ (lists : ProgramLists) where
             refl;
       })
 
-  processes-after : (least at : ℕ) (form : CodeForm) → ((k n : ℕ) (f : Fault) → k < length lists.procs
+  processes-after : (least at : ℕ) (form : CodeForm) → ((k n : ℕ) (f : DeclarationFault) → k < length lists.procs
       → ProcessFault lists k n f → least ≤ n) → GetsStuck lists at form → least ≤ at
   processes-after least at form first stuck =
       first stuck.place at (fault.Stuck form) (slice_get_within lists.procs stuck.place stuck.declaration
@@ -100,8 +101,8 @@ module _ (lists : ProgramLists) where
             refl;
       })
 
-  first-of_all : (least : ℕ) → ((k n : ℕ) (f : Fault) → k < length lists.fns → FunctionFault lists k n f
-      → least ≤ n) → ((k n : ℕ) (f : Fault) → k < length lists.procs → ProcessFault lists k n f → least ≤ n)
+  first-of_all : (least : ℕ) → ((k n : ℕ) (f : DeclarationFault) → k < length lists.fns → FunctionFault lists k n f
+      → least ≤ n) → ((k n : ℕ) (f : DeclarationFault) → k < length lists.procs → ProcessFault lists k n f → least ≤ n)
       → NoneBefore (IsFaulty lists) least
   first-of_all least functions processes other faulty =
       elim faulty [
@@ -109,9 +110,11 @@ module _ (lists : ProgramLists) where
         | inr (form, stuck) ↦ processes-after least other form processes stuck
       ]
 
-  module _ (function_apart : (k at : ℕ) (f : Fault) → FunctionFine lists k → FunctionFault lists k at f
-      → ⊥) (process_apart : (k at : ℕ) (f : Fault) → ProcessFine lists k → ProcessFault lists k at f → ⊥) where
-    both-told : (a b : ℕ × Fault) (t : Bool) → nat_le a.0 b.0 ≡ t → FunctionsTell (Some a) → ProcessesTell (Some b)
+  module _ (function_apart : (k at : ℕ) (f : DeclarationFault) → FunctionFine lists k → FunctionFault lists k at f
+      → ⊥) (process_apart : (k at : ℕ) (f : DeclarationFault) → ProcessFine lists k → ProcessFault lists k at f
+      → ⊥) where
+    both-told : (a b : ℕ × DeclarationFault) (t : Bool) → nat_le a.0 b.0 ≡ t → FunctionsTell (Some a)
+        → ProcessesTell (Some b)
         → DeclarationsTell lists (cond t (Some a) (Some b))
     both-told a b true le functions processes =
         let lower : a.0 ≤ b.0 = le_from a.0 b.0 le in
@@ -129,7 +132,7 @@ module _ (lists : ProgramLists) where
         )
 
     -- what is found of both
-    pub declarations-told : (functions processes : Option (ℕ × Fault)) → FunctionsTell functions
+    pub declarations-told : (functions processes : Option (ℕ × DeclarationFault)) → FunctionsTell functions
         → ProcessesTell processes → DeclarationsTell lists (earliest functions processes)
     declarations-told None None functions processes =
         record {
@@ -151,11 +154,11 @@ module _ (lists : ProgramLists) where
     declarations-told (Some a) (Some b) functions processes = both-told a b (nat_le a.0 b.0) refl functions processes
 
   -- where nothing is found of both the forms and pairs are gathered
-  pub gathered-first : (P : Type 0) (functions processes : Option (ℕ × Fault)) → IfNone P processes
+  pub gathered-first : (P : Type 0) (functions processes : Option (ℕ × DeclarationFault)) → IfNone P processes
       → IfNone P (earliest functions processes)
   gathered-first P functions processes gathers = from-none (earliest functions processes) refl
     where
-      from-none : (found : Option (ℕ × Fault)) → earliest functions processes ≡ found → IfNone P found
+      from-none : (found : Option (ℕ × DeclarationFault)) → earliest functions processes ≡ found → IfNone P found
       from-none None none = subst (IfNone P) (earliest-none functions processes none) gathers
       from-none (Some a) some = tt
 

@@ -3,17 +3,17 @@ use Rattle.std.proofs.Common.{◌≡◌, ℕ, Option, Some, None, slice_get, sym
 use Rattle.nomos_ir.specs.declared.declaration.FnDecl.{FnDecl}
 use Rattle.nomos_ir.specs.declared.lists.ProgramLists.{ProgramLists}
 use Rattle.nomos_ir.specs.TermKind.{HasKind}
-use Rattle.nomos_rows.specs.declared.telling.Fault.{Fault}
+use Rattle.nomos_rows.specs.declared.first_fault.DeclarationFault.{DeclarationFault}
 use Rattle.nomos_rows.specs.mirror.Declarations.{FunctionFault, FunctionFine, TellsFunction}
-use Rattle.nomos_rows.specs.mirror.Telling.{TellsOne}
+use Rattle.nomos_rows.specs.mirror.FirstFault.{TellsOne}
 
 module _ (lists : ProgramLists) where
   -- a function that has its kind has no fault
-  pub fine-no_fault : (k at : ℕ) (f : Fault) → FunctionFine lists k → FunctionFault lists k at f → ⊥
+  pub fine-no_fault : (k at : ℕ) (f : DeclarationFault) → FunctionFine lists k → FunctionFault lists k at f → ⊥
   fine-no_fault k at f fine fault = fault.other (fine fault.function fault.declared)
 
   -- what is told of the function at a place
-  pub function-told : (k : ℕ) (d : FnDecl) (found : Option (ℕ × Fault)) → slice_get lists.fns k ≡ Some d
+  pub function-told : (k : ℕ) (d : FnDecl) (found : Option (ℕ × DeclarationFault)) → slice_get lists.fns k ≡ Some d
       → TellsFunction lists d found → TellsOne (FunctionFault lists k) (FunctionFine lists k) found
   function-told k d None declared has =
       λ e there.

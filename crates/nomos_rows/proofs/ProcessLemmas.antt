@@ -16,16 +16,16 @@ use Rattle.nomos_check.specs.Checking.{IsFirstStuck, IsStuckAt}
 use Rattle.nomos_check.specs.Reaching.{outset_of, IsFormOf}
 use Rattle.nomos_rows.proofs.TellingLemmas.{below-next, below-more}
 use Rattle.nomos_rows.specs.declared.processes.Gathered.{Gathered}
-use Rattle.nomos_rows.specs.declared.telling.Fault.{Fault}
-use Rattle.nomos_rows.specs.declared.telling.Fault.TheVariants as fault
+use Rattle.nomos_rows.specs.declared.first_fault.DeclarationFault.{DeclarationFault}
+use Rattle.nomos_rows.specs.declared.first_fault.DeclarationFault.TheVariants as fault
 use Rattle.nomos_rows.specs.mirror.Declarations.{ProcessFault, ProcessFine}
 use Rattle.nomos_rows.specs.mirror.Processes.{HasForm, AsksFor, Gathers, Adds}
-use Rattle.nomos_rows.specs.mirror.Telling.{earliest, TellsOne}
+use Rattle.nomos_rows.specs.mirror.FirstFault.{earliest, TellsOne}
 use Rattle.nomos_rows.specs.mirror.Ups.{IfNone}
 
 module _ (lists : ProgramLists) where
   -- a process that has a skeleton is not stuck
-  pub skeleton-no_fault : IsWellFormed lists → (k at : ℕ) (f : Fault) → ProcessFine lists k
+  pub skeleton-no_fault : IsWellFormed lists → (k at : ℕ) (f : DeclarationFault) → ProcessFine lists k
       → ProcessFault lists k at f → ⊥
   skeleton-no_fault formed k at f fine stuck =
       stuck-no_skeleton k formed stuck.declared stuck.stuck.stuck (fine stuck.declaration stuck.declared)
@@ -172,7 +172,8 @@ module _ (lists : ProgramLists) where
             );
       }
 
-  pub gathers-more : (k : ℕ) (old mid new : Compared) (before after : Gathered) (first found : Option (ℕ × Fault))
+  pub gathers-more : (k : ℕ) (old mid new : Compared) (before after : Gathered)
+      (first found : Option (ℕ × DeclarationFault))
       → IfNone (Gathers lists k old mid before.forms.items before.pairs.items) first
       → IfNone (Adds lists k mid new before after) found → IfNone (Gathers lists
       (k + 1) old new after.forms.items after.pairs.items) (earliest first found)
@@ -181,7 +182,7 @@ module _ (lists : ProgramLists) where
   gathers-more k old mid new before after (Some a) None gathers adds = tt
   gathers-more k old mid new before after (Some a) (Some b) gathers adds = if-some (nat_le a.0 b.0) a b
     where
-      if-some : (t : Bool) (a b : ℕ × Fault) → IfNone (Gathers lists
+      if-some : (t : Bool) (a b : ℕ × DeclarationFault) → IfNone (Gathers lists
           (k + 1) old new after.forms.items after.pairs.items) (cond t (Some a) (Some b))
       if-some true a b = tt
       if-some false a b = tt

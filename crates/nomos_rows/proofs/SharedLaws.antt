@@ -7,7 +7,7 @@ use Rattle.nomos_ir.specs.declared.lists.ProgramLists.{ProgramLists}
 use Rattle.nomos_ir.specs.declared.type_node.TypeNode.TheVariants as node
 use Rattle.nomos_ir.specs.Nodes.{type_node}
 use Rattle.nomos_equality.proofs.PathLaws.{equal-worth, equal-from_worth}
-use Rattle.nomos_sync.specs.Continuing.{StandAtDown}
+use Rattle.nomos_equality.specs.Continuing.{StandAtDown}
 use Rattle.nomos_types.proofs.EqualityLaws.{equal-shapes}
 use Rattle.nomos_types.specs.Amount.{Annotations, dths}
 use Rattle.nomos_types.specs.Equality.{no_amounts}

@@ -2,7 +2,7 @@
 use Rattle.std.proofs.Common.{◌≡◌, ◌<◌, ◌≤◌, ◌⊎◌, inl, inr, ℕ, ◌+◌, Bool, true, false, cond, nat_le, Option, Some, None, refl, subst, arith}
 use Rattle.std.proofs.lemmas.Bool.{cases_lt}
 use Rattle.std.proofs.lemmas.Bool.Decides.{leb_tells}
-use Rattle.nomos_rows.specs.mirror.Telling.{earliest, SomeBelow, TellsOne, TellsBelow}
+use Rattle.nomos_rows.specs.mirror.FirstFault.{earliest, SomeBelow, TellsOne, TellsBelow}
 
 -- what the test of two numbers tells
 pub le_from : (m n : ℕ) → nat_le m n ≡ true → m ≤ n

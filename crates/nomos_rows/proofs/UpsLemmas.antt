@@ -7,12 +7,12 @@ use Rattle.nomos_ir.specs.declared.type_node.TypeNode.TheVariants as node
 use Rattle.nomos_ir.specs.Nodes.{type_node}
 use Rattle.nomos_equality.specs.Comparing.{Compared}
 use Rattle.nomos_equality.specs.declared.hop.Hop.{Hop}
-use Rattle.nomos_sync.proofs.SyncLaws.{offends-not_synchronizing}
-use Rattle.nomos_sync.specs.Continuing.{StandAtDown}
+use Rattle.nomos_equality.proofs.SyncLaws.{offends-not_synchronizing}
+use Rattle.nomos_equality.specs.Continuing.{StandAtDown}
 use Rattle.nomos_types.specs.Equality.{no_amounts}
 use Rattle.nomos_types.specs.Synchronizing.{IsSynchronizingAt}
 use Rattle.nomos_rows.proofs.TellingLemmas.{below-next, below-more}
-use Rattle.nomos_rows.specs.mirror.Telling.{earliest}
+use Rattle.nomos_rows.specs.mirror.FirstFault.{earliest}
 use Rattle.nomos_rows.specs.mirror.Ups.{StandsBehind, GoesAstray, GoesBack, PairsJoin, IfNone, PairsOfOne, PairsBelow}
 
 module _ (lists : ProgramLists) where

@@ -12,7 +12,7 @@ use Rattle.nomos_ir.specs.FirstOffset.{NoneBefore}
 use Rattle.nomos_ir.specs.Nodes.{type_node}
 use Rattle.nomos_ir.specs.TermKind.{HasKind}
 use Rattle.nomos_equality.specs.declared.hop.Hop.{Hop}
-use Rattle.nomos_sync.specs.SyncAnswer.{StraysAt}
+use Rattle.nomos_equality.specs.SyncAnswer.{StraysAt}
 use Rattle.nomos_types.specs.Amount.{Annotations}
 use Rattle.nomos_types.specs.Equality.{no_amounts}
 use Rattle.nomos_types.specs.Forming.{StandsAtOffset}

@@ -10,7 +10,7 @@ use Rattle.nomos_forms.specs.declared.form.Form.{Form}
 use Rattle.nomos_forms.specs.declared.row.Row.{Row}
 use Rattle.nomos_forms.specs.Meeting.{MeetsRows}
 use Rattle.nomos_forms.specs.RowsOf.{AreRowsOf}
-use Rattle.nomos_sync.specs.Continuing.{StandAtDown}
+use Rattle.nomos_equality.specs.Continuing.{StandAtDown}
 use Rattle.nomos_types.specs.Amount.{Annotations}
 use Rattle.nomos_types.specs.Typed.{IsTypedProgram}
 use Rattle.nomos_check.specs.Asking.{IsAsked}

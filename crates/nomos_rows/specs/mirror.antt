@@ -1,5 +1,5 @@
 pub mod PartAnswers
 pub mod Declarations
 pub mod Processes
-pub mod Telling
+pub mod FirstFault
 pub mod Ups

@@ -2,9 +2,9 @@
 ghost use Rattle.std.specs.Prelude.{◌≡◌, ◌<◌, ◌↔◌, length, IsTrue, IfOk};
 ghost use Rattle.nomos_ir.specs.TermKind.{HasKind};
 ghost use Rattle.nomos_rows.specs.mirror.Declarations.{FunctionFault, FunctionFine, TellsFunction};
-ghost use Rattle.nomos_rows.specs.mirror.Telling.{TellsBelow};
+ghost use Rattle.nomos_rows.specs.mirror.FirstFault.{TellsBelow};
 
-use crate::telling::{Fault, earliest};
+use crate::first_fault::{DeclarationFault, earliest};
 use nomos_ir::declaration::FnDecl;
 use nomos_ir::kind::Kind;
 use nomos_ir::program::Program;
@@ -36,14 +36,14 @@ fn function_fault(
     alloc: Global,
     program: &Program,
     function: &FnDecl,
-) -> Result<Option<(u32, Fault)>, AllocError>
+) -> Result<Option<(u32, DeclarationFault)>, AllocError>
     requires { function.now.body.0 < length program.now.terms }
     ensures { IfOk result (TellsFunction program.now function.now) }
 {
     if has_its_kind(alloc, program, function)? {
         Ok(None)
     } else {
-        Ok(Some((function.at, Fault::OtherKind)))
+        Ok(Some((function.at, DeclarationFault::OtherKind)))
     }
 }
 
@@ -51,7 +51,7 @@ fn function_fault(
 pub(crate) fn first_other_kind(
     alloc: Global,
     program: &Program,
-) -> Result<Option<(u32, Fault)>, AllocError>
+) -> Result<Option<(u32, DeclarationFault)>, AllocError>
     ensures { IfOk result (TellsBelow (FunctionFault program.now) (FunctionFine program.now) (length program.now.fns)) }
 {
     let mut first = None;

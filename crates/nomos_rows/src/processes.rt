@@ -7,10 +7,10 @@ ghost use Rattle.nomos_forms.specs.Bounds.{IsForm};
 ghost use Rattle.nomos_types.specs.Typed.{IsWellFormed};
 ghost use Rattle.nomos_rows.specs.mirror.Declarations.{ProcessFault, ProcessFine};
 ghost use Rattle.nomos_rows.specs.mirror.Processes.{Gathers, Adds};
-ghost use Rattle.nomos_rows.specs.mirror.Telling.{TellsOne, TellsBelow};
+ghost use Rattle.nomos_rows.specs.mirror.FirstFault.{TellsOne, TellsBelow};
 ghost use Rattle.nomos_rows.specs.mirror.Ups.{IfNone};
 
-use crate::telling::{Fault, earliest};
+use crate::first_fault::{DeclarationFault, earliest};
 use nomos_check::checker::Checker;
 use nomos_check::checking::{Checked, ProcError, check_process_with};
 use nomos_equality::equalities::Equalities;
@@ -48,7 +48,7 @@ fn process_fault(
     gathered: &mut Gathered,
     program: &Program,
     p: ProcId,
-) -> Result<Option<(u32, Fault)>, AllocError>
+) -> Result<Option<(u32, DeclarationFault)>, AllocError>
     requires formed { IsWellFormed program.now }
     requires checker { IsCheckerOf program.now checker.now }
     requires p { p.0 < length program.now.procs }
@@ -64,7 +64,7 @@ fn process_fault(
             gathered.join(checked)?;
             Ok(None)
         }
-        Err(ProcError::ProcType(at, form)) => Ok(Some((at, Fault::Stuck(form)))),
+        Err(ProcError::ProcType(at, form)) => Ok(Some((at, DeclarationFault::Stuck(form)))),
         Err(ProcError::NoMemory) => Err(AllocError),
     }
 }
@@ -76,7 +76,7 @@ pub(crate) fn first_stuck(
     equalities: &mut Equalities,
     gathered: &mut Gathered,
     program: &Program,
-) -> Result<Option<(u32, Fault)>, AllocError>
+) -> Result<Option<(u32, DeclarationFault)>, AllocError>
     requires formed { IsWellFormed program.now }
     requires compared { HasCompared program.now equalities.old }
     requires no_forms { gathered.old.forms.items ≡ [] }

@@ -6,9 +6,9 @@ ghost use Rattle.nomos_rows.specs.PartFaults.{IsCause};
 ghost use Rattle.nomos_rows.specs.ProgramRows.{AreProgramRows, IsTypedByRows};
 ghost use Rattle.nomos_rows.specs.mirror.PartAnswers.{AnswersProgram, error_of};
 
-use crate::declarations::declaration_rows;
-use crate::shared::first_astray;
-use crate::telling::Fault;
+use crate::declaration_rows::declaration_rows;
+use crate::first_fault::DeclarationFault;
+use crate::shared_types::first_astray;
 use nomos_equality::equalities::Equalities;
 use nomos_equality::hop::Path;
 use nomos_forms::row_list::RowList;
@@ -32,12 +32,12 @@ pub enum RowsError {
 }
 
 /// The answer that names a fault of a function or a process.
-fn error_of(at: u32, fault: Fault) -> RowsError
+fn error_of(at: u32, fault: DeclarationFault) -> RowsError
     ensures { result ≡ error_of at fault }
 {
     match fault {
-        Fault::OtherKind => RowsError::TermType(at),
-        Fault::Stuck(form) => RowsError::ProcType(at, form),
+        DeclarationFault::OtherKind => RowsError::TermType(at),
+        DeclarationFault::Stuck(form) => RowsError::ProcType(at, form),
     }
 }
 

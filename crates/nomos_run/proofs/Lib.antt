@@ -1,2 +1,4 @@
 mod CarryLemmas
 pub mod CarriedLaws
+mod CourseLemmas
+mod Sending

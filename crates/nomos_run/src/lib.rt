@@ -1,8 +1,10 @@
 //! What runs a script, item by item, from any ledger: by one worker, or by a crew.
 #![tactic(auto)]
 
-pub mod crew;
+pub mod one_worker;
 pub mod orders;
-pub mod running;
+mod script_course;
+pub mod script_crew;
+mod script_shop;
 pub mod status;
 mod way;

@@ -23,7 +23,7 @@ use std::alloc::{AllocError, Global};
 
 /// How far a run has come: its walk, and the entries that it keeps.
 #[derive(Drop)]
-pub(crate) struct Way<'a> {
+pub(crate) struct RunWay<'a> {
     pub(crate) walk: Walk<'a>,
     pub(crate) entries: Vec<Entry>,
 }
@@ -33,7 +33,7 @@ pub(crate) fn begin<'a>(
     alloc: Global,
     accepted: &'a Accepted,
     orders: Orders,
-) -> Result<Way<'a>, AllocError>
+) -> Result<RunWay<'a>, AllocError>
     ensures walk { IfOk result (λ way. way.walk ≡ walk_of accepted.now orders.limit (wanted_by orders) []) }
     ensures entries { IfOk result (λ way. way.entries.items ≡ []) }
 {
@@ -44,7 +44,7 @@ pub(crate) fn begin<'a>(
     };
     let walk = Walk::new(alloc, accepted, orders.limit, wanted)?;
     let entries = Vec::new(alloc);
-    Ok(Way { walk, entries })
+    Ok(RunWay { walk, entries })
 }
 
 /// Where a name is read, a ledger is known to be one.
@@ -113,7 +113,7 @@ fn finished<M: Undo + Drop>(
 
 /// What a run comes to: its journal, and where it came to the last ledger, all that is given.
 pub(crate) fn end<M: Undo + Drop>(
-    way: Way<'_>,
+    way: RunWay<'_>,
     limit: u32,
     last: Result<Ledger<M>, AllocError>,
 ) -> ScriptRun<M>
@@ -122,7 +122,7 @@ pub(crate) fn end<M: Undo + Drop>(
     ensures whole { IfSome result.finished (λ whole. IfOk last (λ l. IsWholeOf way.entry.walk l whole)) }
     ensures none { OnErr last (result.finished ≡ None) }
 {
-    let Way { walk, entries } = way;
+    let RunWay { walk, entries } = way;
     let finished = finished(walk, last);
     ScriptRun {
         journal: Journal {

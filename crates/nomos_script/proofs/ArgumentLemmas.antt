@@ -3,7 +3,7 @@ use Rattle.std.proofs.Common.{◌≡◌, ℕ, List, [], ◌∷◌, Some, None, c
 use Rattle.nomos_ir.specs.Value.{Value}
 use Rattle.nomos_script.specs.Form.{print_names}
 use Rattle.nomos_script.specs.ScriptScan.{Token, mark}
-use Rattle.nomos_script.specs.mirror.Seen.{AreNames, AreArguments}
+use Rattle.nomos_script.specs.mirror.ReaderSeen.{AreNames, AreArguments}
 use Rattle.nomos_script.specs.ValueTree.{print_values}
 use Rattle.nomos_script.specs.mirror.ValueReading.{nothing_read, read_values}
 use Rattle.nomos_script.proofs.NamesLemmas.{names_once}

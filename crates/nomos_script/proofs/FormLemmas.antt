@@ -10,7 +10,7 @@ use Rattle.nomos_script.specs.Form.{Form, Invocation, blank, deposit, create, ex
 use Rattle.nomos_script.specs.Item.{start_at}
 use Rattle.nomos_script.specs.ScriptNames.{IsScriptName}
 use Rattle.nomos_script.specs.ScriptScan.{Token, word, number, mark}
-use Rattle.nomos_script.specs.mirror.Seen.{AreArguments, BeginsWithName, BeginsWithUnits, SaysLine, Starts}
+use Rattle.nomos_script.specs.mirror.ReaderSeen.{AreArguments, BeginsWithName, BeginsWithUnits, SaysLine, Starts}
 use Rattle.nomos_script.specs.ValueTree.{print_values, values_at}
 use Rattle.nomos_script.specs.mirror.Assembling.{line_said}
 use Rattle.nomos_script.proofs.NamesLemmas.{names_once}

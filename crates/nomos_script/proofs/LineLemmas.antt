@@ -3,7 +3,7 @@ use Rattle.std.proofs.Common.{◌≡◌, ℕ, suc, ◌+◌, ◌-◌, ◌<◌, tr
 use Rattle.std.specs.List.{prefix_len}
 use Rattle.std.proofs.lemmas.Bool.{cases_Bool, eqb-true}
 use Rattle.nomos_script.specs.Lines.{is_line_byte, begins_with_feed, put_byte, lines_of}
-use Rattle.nomos_script.specs.mirror.Seen.{without_return}
+use Rattle.nomos_script.specs.mirror.ReaderSeen.{without_return}
 
 -- a line feed ends a line
 lines_of-feed : (b : ℕ) (bytes : List ℕ) → b == 10 ≡ true → lines_of (b ∷ bytes) ≡ [] ∷ lines_of bytes

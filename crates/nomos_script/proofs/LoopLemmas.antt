@@ -8,7 +8,7 @@ use Rattle.nomos_script.specs.Lines.{lines_of}
 use Rattle.nomos_script.specs.Paragraph.{Paragraph, forms_of, StandsInside, IsParagraph}
 use Rattle.nomos_ir.specs.Limits.{text_limit}
 use Rattle.nomos_script.specs.ScriptReading.{LinesReadAs, ReadsAs, BeginScript, IsBadAt, IsOpenAt, IsSyntaxAt}
-use Rattle.nomos_script.specs.mirror.Seen.{AddsLine}
+use Rattle.nomos_script.specs.mirror.ReaderSeen.{AddsLine}
 use Rattle.nomos_script.specs.mirror.Assembling.{Assembled, nothing_assembled, line_said, add_line}
 use Rattle.nomos_script.specs.mirror.ValueReading.{and_then}
 use Rattle.nomos_script.proofs.AssemblyLemmas.{assemble, assemble-append, assemble-paragraphs}

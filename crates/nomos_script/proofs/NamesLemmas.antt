@@ -4,7 +4,7 @@ use Rattle.std.proofs.lemmas.List.Elements.{All-nil, All-cons, All-head, All-tai
 use Rattle.nomos_script.specs.Form.{print_names, print_more_names}
 use Rattle.nomos_script.specs.ScriptNames.{IsScriptName}
 use Rattle.nomos_script.specs.ScriptScan.{Token, word, mark}
-use Rattle.nomos_script.specs.mirror.Seen.{AreNames, AreMoreNames, BeginsWithName}
+use Rattle.nomos_script.specs.mirror.ReaderSeen.{AreNames, AreMoreNames, BeginsWithName}
 
 print_more_names-push : (names : List (List ℕ)) (name : List ℕ) (after : List Token)
     → print_more_names (names ++ name ∷ []) after ≡ print_more_names names (mark (codes ",") ∷ word name ∷ after)

@@ -10,7 +10,7 @@ use Rattle.std.proofs.lemmas.Str.{digit_value_digit}
 use Rattle.std.proofs.lemmas.List.{drop_all, take_rest}
 use Rattle.std.specs.Prelude.{slice_index}
 use Rattle.nomos_ir.specs.Name.{is_letter, is_digit, is_word_byte}
-use Rattle.nomos_script.specs.mirror.Seen.{IsPlainMark}
+use Rattle.nomos_script.specs.mirror.ReaderSeen.{IsPlainMark}
 use Rattle.nomos_script.specs.ScriptScan.{word, number, mark, is_blank, begins_comment, piece_at, tokens_from, tokens_of}
 
 -- inside a piece stands no token

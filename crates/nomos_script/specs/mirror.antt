@@ -2,4 +2,4 @@
 pub mod ValueReading
 pub mod Assembling
 pub mod TalkSaying
-pub mod Seen
+pub mod ReaderSeen

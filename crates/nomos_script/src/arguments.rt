@@ -4,7 +4,7 @@ ghost use Rattle.nomos_ir.specs.Value.{Value};
 ghost use Rattle.nomos_script.specs.Form.{print_more_names};
 ghost use Rattle.nomos_script.specs.ScriptNames.{IsScriptName};
 ghost use Rattle.nomos_script.specs.ScriptScan.{Token as Lexeme, word, mark};
-ghost use Rattle.nomos_script.specs.mirror.Seen.{AreNames, AreMoreNames, AreArguments};
+ghost use Rattle.nomos_script.specs.mirror.ReaderSeen.{AreNames, AreMoreNames, AreArguments};
 
 use crate::growing::put;
 use crate::name::{ScriptName, ScriptNames, is_script_name};
@@ -17,7 +17,7 @@ use std::alloc::{AllocError, Global};
 
 /// The arguments of a line.
 #[derive(Drop)]
-pub(crate) struct Arguments {
+pub(crate) struct LineArguments {
     pub(crate) values: Values,
     pub(crate) names: ScriptNames,
 }
@@ -85,7 +85,10 @@ fn read_names(alloc: Global, tokens: &mut Tokens<'_>) -> Result<ScriptNames, Lin
 }
 
 /// Takes the arguments, which have to be the last of the line.
-pub(crate) fn read_arguments(alloc: Global, tokens: &mut Tokens<'_>) -> Result<Arguments, LineStop>
+pub(crate) fn read_arguments(
+    alloc: Global,
+    tokens: &mut Tokens<'_>,
+) -> Result<LineArguments, LineStop>
     ensures read { IfOk result (λ a. AreArguments tokens.old a.values a.names) }
     ensures none { IsErrOf result LineStop.NoForm → (values : List Value) (names : List (List ℕ))
         → ¬ AreArguments tokens.old values names }
@@ -94,5 +97,5 @@ pub(crate) fn read_arguments(alloc: Global, tokens: &mut Tokens<'_>) -> Result<A
     let values = read_values(alloc, tokens)?;
     let names = read_names(alloc, tokens)?;
     tokens.end()?;
-    Ok(Arguments { values, names })
+    Ok(LineArguments { values, names })
 }

@@ -1,7 +1,7 @@
 //! How items are made of lines.
 ghost use Rattle.std.specs.Prelude.{◌≡◌, ℕ, ◌++◌, ◌∷◌, [], Some, None, IfOk, IfErr, OnOk, IsErrOf};
 ghost use Rattle.nomos_script.specs.Form.{Form, LineReadsAs};
-ghost use Rattle.nomos_script.specs.mirror.Seen.{AddsLine};
+ghost use Rattle.nomos_script.specs.mirror.ReaderSeen.{AddsLine};
 ghost use Rattle.nomos_script.specs.mirror.Assembling.{add_line, add_outside, add_inside, with_item, nothing_assembled, line_said};
 
 use crate::growing::put;

@@ -4,12 +4,12 @@
 mod arguments;
 mod assembly;
 mod bytes;
+mod digits;
 mod growing;
 pub mod item;
 mod line;
 mod lines;
 pub mod name;
-mod number;
 pub mod parsing;
 pub mod script;
 mod stop;

@@ -2,7 +2,7 @@
 ghost use Rattle.std.specs.Prelude.{◌≡◌, ◌≢◌, ◌∷◌, [], IfOk, IsErrOf, codes};
 ghost use Rattle.nomos_script.specs.Form.{Form, Invocation, IsValidInvocation, TokensReadAs, HasForm, print_invocation};
 ghost use Rattle.nomos_script.specs.ScriptScan.{word, tokens_of};
-ghost use Rattle.nomos_script.specs.mirror.Seen.{SaysLine, Starts};
+ghost use Rattle.nomos_script.specs.mirror.ReaderSeen.{SaysLine, Starts};
 
 use crate::arguments::read_arguments;
 use crate::item::Start;

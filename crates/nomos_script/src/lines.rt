@@ -2,7 +2,7 @@
 ghost use Rattle.std.specs.Prelude.{◌≡◌, ◌+◌, ◌<◌, ◌≤◌, ◌∷◌, length};
 ghost use Rattle.std.specs.List.{prefix_len};
 ghost use Rattle.nomos_script.specs.Lines.{is_line_byte, lines_of};
-ghost use Rattle.nomos_script.specs.mirror.Seen.{without_return};
+ghost use Rattle.nomos_script.specs.mirror.ReaderSeen.{without_return};
 
 use crate::bytes::is_line_byte;
 

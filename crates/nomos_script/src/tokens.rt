@@ -3,11 +3,11 @@ ghost use Rattle.std.specs.Prelude.{◌≡◌, ◌≢◌, ◌<◌, ◌≤◌, �
 ghost use Rattle.std.specs.List.{prefix_len};
 ghost use Rattle.nomos_script.specs.ScriptNames.{IsScriptName};
 ghost use Rattle.nomos_script.specs.ScriptScan.{Token as Lexeme, word, mark, is_blank, begins_comment, tokens_of};
-ghost use Rattle.nomos_script.specs.mirror.Seen.{token_seen, HasDigits, IsPlainMark, BeginsWithName, BeginsWithUnits};
+ghost use Rattle.nomos_script.specs.mirror.ReaderSeen.{token_seen, HasDigits, IsPlainMark, BeginsWithName, BeginsWithUnits};
 
 use crate::bytes::is_blank;
+use crate::digits::units_of;
 use crate::name::is_script_name;
-use crate::number::units_of;
 use crate::stop::LineStop;
 use nomos_ir::letters::{digits_length, is_digit, is_letter, word_length};
 use std::marker::Model;

@@ -5,11 +5,11 @@ ghost use Rattle.nomos_ir.specs.ValueNode.{value_of};
 ghost use Rattle.nomos_ir.specs.Weight.{list_weight, max_weight};
 ghost use Rattle.nomos_script.specs.mirror.ValueReading.{nothing_read, awaits_value, may_end, put, put_number, take_digits, take_word, open_list, close_list, take_mark, take_token, ends_values, read_values};
 ghost use Rattle.nomos_script.specs.ScriptScan.{mark};
-ghost use Rattle.nomos_script.specs.mirror.Seen.{token_seen, HasDigits};
+ghost use Rattle.nomos_script.specs.mirror.ReaderSeen.{token_seen, HasDigits};
 ghost use Rattle.std.specs.Str.Parse.{IsNumeral};
 
+use crate::digits::signed_number;
 use crate::growing;
-use crate::number::signed_number;
 use crate::stop::LineStop;
 use crate::tokens::{Token, Tokens};
 use crate::weighed::{OpenList, WeighedValue};

@@ -17,7 +17,7 @@ use Rattle.nomos_simplex.proofs.FractionLemmas.{first_divides_lcm}
 use Rattle.nomos_simplex.specs.Divisors.{gcd, lcm}
 use Rattle.nomos_simplex.specs.Exits.{fraction_in, fraction_of, denominator, common_denominator}
 use Rattle.nomos_simplex.specs.Tables.{least_or_zero, bound_of, sum_at, Holds}
-use Rattle.nomos_simplex.specs.declared.table.Line.{Line}
+use Rattle.nomos_simplex.specs.declared.table.TableLine.{TableLine}
 use Rattle.nomos_simplex.specs.declared.table.Table.{Table}
 use Rattle.nomos_simplex.proofs.CountLemmas.{counted}
 use Rattle.nomos_simplex.proofs.DivisorLemmas.{gcd_is}
@@ -72,11 +72,11 @@ amount_exact u f h =
     div-mul_cancel f.1 (subst (λ n. n ∣ u * f.0) whole (mul-dvd-mul (f.1 / g) g h (gcd_is f.1 f.0).1))
 
 -- ---- a multiple of all numbers before basic variables
-abbrev pub times_product : List Line → ℕ
+abbrev pub times_product : List TableLine → ℕ
 times_product [] = 1
 times_product (line ∷ lines) = unsigned_abs line.times * times_product lines
 
-pub product-divided : (lines : List Line) → All (λ line. unsigned_abs line.times ∣ times_product lines) lines
+pub product-divided : (lines : List TableLine) → All (λ line. unsigned_abs line.times ∣ times_product lines) lines
 product-divided [] = All-nil (λ line. unsigned_abs line.times ∣ 1)
 product-divided (line ∷ lines) =
     All-cons (λ other. unsigned_abs other.times ∣ unsigned_abs line.times * times_product lines) line lines
@@ -86,7 +86,7 @@ product-divided (line ∷ lines) =
     (λ other h. dvd-mul_left_of_dvd (unsigned_abs other.times) h (unsigned_abs line.times)) lines
     (product-divided lines))
 
-pub product_positive : (lines : List Line) → All (λ line. pos 0 <ℤ line.times) lines → 0 < times_product lines
+pub product_positive : (lines : List TableLine) → All (λ line. pos 0 <ℤ line.times) lines → 0 < times_product lines
 product_positive [] h = omega arith
 product_positive (line ∷ lines) h =
     product_over_zero (unsigned_abs line.times) (times_product lines)
@@ -98,7 +98,7 @@ abbrev pub AreOverZero : Table → Type 0
 AreOverZero table = All (λ line. pos 0 <ℤ line.times) table.lines
 
 -- ---- what a variable has, m times, where the nonbasic ones have what b says
-abbrev pub value_from : ℕ → (ℕ → ℤ) → List ℕ → ℕ → Option Line → ℤ
+abbrev pub value_from : ℕ → (ℕ → ℤ) → List ℕ → ℕ → Option TableLine → ℤ
 value_from m b vs v (Some line) = pos (m / unsigned_abs line.times) *ℤ sum_at b vs line.coefs
 value_from m b vs v None = pos m *ℤ b v
 
@@ -117,7 +117,8 @@ value-nonbasic m b rows table h k d l =
     let once = h.once v in
     ap (value_from m b table.nonbasic v) (not_found v table.lines (omega arith))
 
-pub value-basic : (m : ℕ) (b : ℕ → ℤ) (rows : RowList) (table : Table) (k : ℕ) (d : Line) → HasEachOnce rows table →
+pub value-basic : (m : ℕ) (b : ℕ → ℤ) (rows : RowList) (table : Table) (k : ℕ) (d : TableLine) → HasEachOnce rows table
+    →
     k < length table.lines →
     value_under m b table (get_or table.lines k d).basic ≡ pos
     (m / unsigned_abs (get_or table.lines k d).times) *ℤ sum_at b table.nonbasic
@@ -153,12 +154,13 @@ NoneBelow rows table =
     All (λ line. (line.times *ℤ bound_of rows line.basic) ≤ℤ sum_at (bound_of rows) table.nonbasic line.coefs)
     table.lines
 
-found_step : (p : Line → Bool) (x line : Line) (t : Bool) (o : Option Line) → p x ≡ t →
+found_step : (p : TableLine → Bool) (x line : TableLine) (t : Bool) (o : Option TableLine) → p x ≡ t →
     cond t (Some x) o ≡ Some line → ((x ≡ line) × (p x ≡ true)) ⊎ (o ≡ Some line)
 found_step p x line true o e h = inl (cc, e)
 found_step p x line false o e h = inr h
 
-pub found_passes : (P : Line → Type 0) (p : Line → Bool) (lines : List Line) (line : Line) → All P lines →
+pub found_passes : (P : TableLine → Type 0) (p : TableLine → Bool) (lines : List TableLine) (line : TableLine)
+    → All P lines →
     find p lines ≡ Some line → P line × (p line ≡ true)
 found_passes P p [] line all e = cc
 found_passes P p (x ∷ lines) line all e = ⊎_elim
@@ -167,13 +169,13 @@ found_passes P p (x ∷ lines) line all e = ⊎_elim
     (found_step p x line (p x) (find p lines) refl e)
 
 -- the line that a variable has, if it is basic
-record IsLineOf (rows : RowList) (table : Table) (v : ℕ) (line : Line) : Type 0 where
+record IsLineOf (rows : RowList) (table : Table) (v : ℕ) (line : TableLine) : Type 0 where
   basic : line.basic ≡ v
   over : pos 0 <ℤ line.times
   divides : unsigned_abs line.times ∣ times_product table.lines
   low : (line.times *ℤ bound_of rows line.basic) ≤ℤ sum_at (bound_of rows) table.nonbasic line.coefs
 
-line_of : (rows : RowList) (table : Table) (v : ℕ) (line : Line) → AreOverZero table → NoneBelow rows table →
+line_of : (rows : RowList) (table : Table) (v : ℕ) (line : TableLine) → AreOverZero table → NoneBelow rows table →
     find (λ line. line.basic == v) table.lines ≡ Some line → IsLineOf rows table v line
 line_of rows table v line over none e =
     let a = found_passes (λ line. pos 0 <ℤ line.times) (λ line. line.basic == v) table.lines line over e in
@@ -187,8 +189,8 @@ line_of rows table v line over none e =
 le_same : (a : ℤ) → a ≤ℤ a
 le_same a = at_most_in a a (omega arith)
 
-low_in : (rows : RowList) (table : Table) (v : ℕ) (o : Option Line) →
-    ((line : Line) → o ≡ Some line → IsLineOf rows table v line) →
+low_in : (rows : RowList) (table : Table) (v : ℕ) (o : Option TableLine) →
+    ((line : TableLine) → o ≡ Some line → IsLineOf rows table v line) →
     (pos (times_product table.lines) *ℤ bound_of rows v) ≤ℤ value_from (times_product table.lines) (bound_of rows)
     table.nonbasic v o
 low_in rows table v None h = le_same (pos (times_product table.lines) *ℤ bound_of rows v)
@@ -227,8 +229,8 @@ record IsFractionOf (rows : RowList) (table : Table) (v : ℕ) (f : ℕ × ℕ) 
   divides : f.1 ∣ times_product table.lines
   value : x ≡ pos (times_product table.lines / f.1) *ℤ pos f.0
 
-fraction_is : (rows : RowList) (table : Table) (v : ℕ) (o : Option Line) → v ≤ rows.stars →
-    ((line : Line) → o ≡ Some line → IsLineOf rows table v line) →
+fraction_is : (rows : RowList) (table : Table) (v : ℕ) (o : Option TableLine) → v ≤ rows.stars →
+    ((line : TableLine) → o ≡ Some line → IsLineOf rows table v line) →
     IsFractionOf rows table v (fraction_in rows table.nonbasic o)
     (value_from (times_product table.lines) (bound_of rows) table.nonbasic v o)
 fraction_is rows table v None few h = record {

@@ -3,19 +3,19 @@ use Rattle.std.proofs.Common.{◌≡◌, ℕ, ◌≤◌, Bool, true, false, List
 use Rattle.std.proofs.lemmas.Int.{ints}
 use borrow.Author.Differences.{lt-true, lt-false, le_out}
 use Rattle.nomos_forms.specs.declared.row_list.RowList.{RowList}
-use Rattle.nomos_simplex.specs.Lowest.{is_below}
+use Rattle.nomos_simplex.specs.LowestVariable.{is_below}
 use Rattle.nomos_simplex.specs.Tables.{bound_of, sum_at}
 use Rattle.nomos_simplex.specs.mirror.Classes.{IsClass, named}
 use Rattle.nomos_simplex.specs.mirror.Keeping.{over_of}
 use Rattle.nomos_simplex.specs.declared.classes.Class.{Class}
-use Rattle.nomos_simplex.specs.declared.table.Line.{Line}
+use Rattle.nomos_simplex.specs.declared.table.TableLine.{TableLine}
 use Rattle.nomos_simplex.proofs.ClassChoiceLemmas.{bounds-keep}
 use Rattle.nomos_simplex.proofs.KeepingLemmas.{less_by}
 use Rattle.nomos_simplex.proofs.SignLemmas.{times_at_most}
 use Rattle.nomos_simplex.proofs.SumLemmas.{times_minus}
 
 -- a variable is below its bound where that is so much higher than the bound of the line's own
-pub below_by : (rows : RowList) (nonbasic : List ℕ) (line : Line) (v : ℕ) (over r : ℤ) →
+pub below_by : (rows : RowList) (nonbasic : List ℕ) (line : TableLine) (v : ℕ) (over r : ℤ) →
     over ≡ over_of rows nonbasic line → r ≡ line.times *ℤ (bound_of rows v -ℤ bound_of rows line.basic) →
     int_lt over r ≡ is_below rows nonbasic (named v line)
 below_by rows nonbasic line v over r e f =
@@ -37,7 +37,7 @@ not_below_less s t x y h l e = by_test (int_lt s (t *ℤ y)) refl
       le_out (t *ℤ y) (t *ℤ x) (times_at_most t y x h l),
     ))
 
-pub not_below_before : (rows : RowList) (nonbasic : List ℕ) (class : Class) (line : Line) (v w : ℕ) →
+pub not_below_before : (rows : RowList) (nonbasic : List ℕ) (class : Class) (line : TableLine) (v w : ℕ) →
     IsClass rows class → pos 0 <ℤ line.times → class.first ≤ v → v ≤ w → w ≤ class.last →
     is_below rows nonbasic (named w line) ≡ false → is_below rows nonbasic (named v line) ≡ false
 not_below_before rows nonbasic class line v w c h low le high e =

@@ -12,7 +12,7 @@ use Rattle.nomos_forms.specs.declared.row_list.RowList.{RowList}
 use Rattle.nomos_simplex.specs.Exchange.{coef_at}
 use Rattle.nomos_simplex.specs.Nearest.{is_nearer, line_at, nearest}
 use Rattle.nomos_simplex.specs.Tables.{sum_at, Holds, first_table}
-use Rattle.nomos_simplex.specs.declared.table.Line.{Line}
+use Rattle.nomos_simplex.specs.declared.table.TableLine.{TableLine}
 use Rattle.nomos_simplex.specs.declared.table.Table.{Table}
 use Rattle.nomos_simplex.proofs.AmountLemmas.{value_from, value_under, times_product, product_positive, values_hold, value-nonbasic, found_passes}
 use Rattle.nomos_simplex.proofs.CountLemmas.{counted}
@@ -109,7 +109,7 @@ module _ (rows : RowList) (table : Table) (t : IsTableOfRows rows table) (j : �
       of_test true = at_most_in (pos 0) (pos 1) (omega arith)
       of_test false = at_most_in (pos 0) (pos 0) (omega arith)
 
-  risen : (v : ℕ) (o : Option Line) → find (λ line. line.basic == v) table.lines ≡ o →
+  risen : (v : ℕ) (o : Option TableLine) → find (λ line. line.basic == v) table.lines ≡ o →
       pos 0 ≤ℤ value_from (times_product table.lines) (one_of (get_or table.nonbasic j 0)) table.nonbasic v o
   risen v None e = product_not_below (pos (times_product table.lines)) (one_of (get_or table.nonbasic j 0) v)
       (at_most_in (pos 0) (pos (times_product table.lines)) (omega arith)) (one_of-not_below v)
@@ -125,7 +125,8 @@ module _ (rows : RowList) (table : Table) (t : IsTableOfRows rows table) (j : �
       (subst (λ z. pos 0 ≤ℤ z) (sym (sum_one table.nonbasic line.coefs j h is.0 once)) own.0)
 
 -- the goal's line has no coefficient below 0 there
-pub goal-not_below : (rows : RowList) (table : Table) (j : ℕ) (line : Line) (coefs : List ℤ) → IsTableOfRows rows table
+pub goal-not_below : (rows : RowList) (table : Table) (j : ℕ) (line : TableLine) (coefs : List ℤ)
+    → IsTableOfRows rows table
     →
     j < length table.nonbasic → All (λ line. pos 0 ≤ℤ coef_at j line) table.lines →
     length line.coefs ≡ length table.nonbasic → pos 0 <ℤ line.times → All (λ c. pos 0 ≤ℤ c) coefs →
@@ -154,7 +155,8 @@ goal-not_below rows table j line coefs t h lines w over high holds under =
     apart (negsuc t) s m c h i p u e = absurd (omega (arith, lt_out (pos 0) (negsuc t) h))
 
 -- so there is a line that is nearest
-pub some_nearest : (rows : RowList) (table : Table) (j : ℕ) (line : Line) (coefs : List ℤ) → IsTableOfRows rows table →
+pub some_nearest : (rows : RowList) (table : Table) (j : ℕ) (line : TableLine) (coefs : List ℤ)
+    → IsTableOfRows rows table →
     j < length table.nonbasic → length line.coefs ≡ length table.nonbasic → pos 0 <ℤ line.times →
     All (λ c. pos 0 ≤ℤ c) coefs →
     ((y : ℕ → ℤ) → Holds y (first_table rows) →

@@ -1,6 +1,6 @@
 -- The foremost place, and the lowest, one place more.
 use Rattle.std.proofs.Common.{◌≡◌, ℕ, ◌+◌, Bool, true, false, cond, Option, Some, ap, sym, ◌∙◌, add-one}
-use Rattle.nomos_simplex.specs.Lowest.{former_of, foremost_place}
+use Rattle.nomos_simplex.specs.LowestVariable.{former_of, foremost_place}
 
 pub foremost_then : (passes : ℕ → Bool) (is_former : ℕ → ℕ → Bool) (n : ℕ) (before : Option ℕ) (k : ℕ) →
     passes n ≡ true → before ≡ foremost_place passes is_former n → k ≡ former_of is_former n before →

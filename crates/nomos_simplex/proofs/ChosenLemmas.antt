@@ -3,7 +3,7 @@ use Rattle.std.proofs.Common.{◌≡◌, ℕ, ◌+◌, ◌<◌, ◌≤◌, true,
 use Rattle.std.specs.Prelude.{nat_lt}
 use Rattle.std.proofs.lemmas.Bool.{ltb-true, ltb-false, lt-ltb}
 use Rattle.nomos_forms.specs.declared.row_list.RowList.{RowList}
-use Rattle.nomos_simplex.specs.Lowest.{lowest_place, is_below, leaving}
+use Rattle.nomos_simplex.specs.LowestVariable.{lowest_place, is_below, leaving}
 use Rattle.nomos_simplex.specs.Nearest.{line_at}
 use Rattle.nomos_simplex.specs.mirror.Classes.{IsFollowed, IsChosen, NoneIsBelow, class_at, column_at}
 use Rattle.nomos_simplex.specs.declared.choosing.Choice.TheVariants as choice

@@ -7,13 +7,13 @@ use Rattle.std.proofs.lemmas.Option.{slice_get-get_or}
 use borrow.Author.Differences.{le_out, lt_out, at_most_in, below_in, lt-true, false_is_lt, true_is_lt}
 use Rattle.nomos_forms.specs.declared.row_list.RowList.{RowList}
 use Rattle.nomos_simplex.specs.GoalLine.{itself, line_of}
-use Rattle.nomos_simplex.specs.Lowest.{is_below, leaving}
+use Rattle.nomos_simplex.specs.LowestVariable.{is_below, leaving}
 use Rattle.nomos_simplex.specs.Nearest.{line_at}
 use Rattle.nomos_simplex.specs.Sizes.{IsVariable}
 use Rattle.nomos_simplex.specs.Tables.{bound_of, sum_at}
 use Rattle.nomos_simplex.specs.declared.classes.Class.{Class}
 use Rattle.nomos_simplex.specs.declared.classes.Classes.{Classes}
-use Rattle.nomos_simplex.specs.declared.table.Line.{Line}
+use Rattle.nomos_simplex.specs.declared.table.TableLine.{TableLine}
 use Rattle.nomos_simplex.specs.declared.table.Table.{Table}
 use Rattle.nomos_simplex.specs.mirror.Classes.{IsIn, IsClass, class_at, IsInOne, column_at, StandsFor, named, Lead, NoneIsBelow, IsAtMostBelow}
 use Rattle.nomos_simplex.proofs.ClassLemmas.{no_line, in_class-is_variable, line_class, column_class, next-in, same_line, line_of-basic, IsBasic, IsNonbasic, basic_or_nonbasic, basic_line, place-is_variable, column-nonbasic_in_full}
@@ -90,16 +90,16 @@ at_below rows table k l =
     get_or-map (is_below rows table.nonbasic) table.lines k no_line false l
 
 at_basic : (table : Table) (k : ℕ) → k < length table.lines →
-    get_or (map (λ (line : Line). line.basic) table.lines) k 0 ≡ (line_at table.lines k).basic
+    get_or (map (λ (line : TableLine). line.basic) table.lines) k 0 ≡ (line_at table.lines k).basic
 at_basic table k l =
-    get_or-map (λ (line : Line). line.basic) table.lines k no_line 0 l
+    get_or-map (λ (line : TableLine). line.basic) table.lines k no_line 0 l
 
 pub none_below_at : (rows : RowList) (table : Table) → leaving rows table ≡ None → (k : ℕ) → k < length table.lines →
     is_below rows table.nonbasic (line_at table.lines k) ≡ false
 none_below_at rows table e k l =
     sym (at_below rows table k l)
     ∙ none_passes (λ i. get_or (map (is_below rows table.nonbasic) table.lines) i false)
-    (λ i. get_or (map (λ (line : Line). line.basic) table.lines) i 0) (length table.lines) e k l
+    (λ i. get_or (map (λ (line : TableLine). line.basic) table.lines) i 0) (length table.lines) e k l
 
 -- the line that leaves is that of the lowest variable below its bound
 pub record Leaves (rows : RowList) (table : Table) (k : ℕ) : Type 0 where
@@ -111,7 +111,7 @@ pub record Leaves (rows : RowList) (table : Table) (k : ℕ) : Type 0 where
 pub leaves : (rows : RowList) (table : Table) (k : ℕ) → leaving rows table ≡ Some k → Leaves rows table k
 leaves rows table k e =
     let passes = λ (i : ℕ). get_or (map (is_below rows table.nonbasic) table.lines) i false in
-    let number = λ (i : ℕ). get_or (map (λ (line : Line). line.basic) table.lines) i 0 in
+    let number = λ (i : ℕ). get_or (map (λ (line : TableLine). line.basic) table.lines) i 0 in
     let at = place_passes passes number (length table.lines) k e in
     record {
       within = at.0;

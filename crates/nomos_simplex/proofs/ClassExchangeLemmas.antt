@@ -15,7 +15,7 @@ use Rattle.nomos_simplex.specs.Nearest.{line_at}
 use Rattle.nomos_simplex.specs.mirror.Classes.{IsIn, IsClass, IsInOne, Fit, StandsFor, SameNumbers, class_at, column_at, classes_exchanged}
 use Rattle.nomos_simplex.specs.declared.classes.Class.{Class}
 use Rattle.nomos_simplex.specs.declared.classes.Classes.{Classes}
-use Rattle.nomos_simplex.specs.declared.table.Line.{Line}
+use Rattle.nomos_simplex.specs.declared.table.TableLine.{TableLine}
 use Rattle.nomos_simplex.specs.declared.table.Table.{Table}
 use Rattle.nomos_simplex.proofs.CountLemmas.{All-remove}
 use Rattle.nomos_simplex.proofs.ClassLemmas.{no_class, no_line, same_back, alike, same_by, column-nonbasic_in_full}
@@ -95,9 +95,10 @@ removed_long : {X Y : Type 0} (xs : List X) (ys : List Y) (i : ℕ) → length x
 removed_long xs ys i e h = omega (arith, length-remove xs i h, length-remove ys i (omega (arith, e, h)), e)
 
 -- a relation of classes and lines that the exchange keeps
-pub at_lines-exchanged : (R S : Class → Line → Type 0) (i j : ℕ) (left : Line) (table : Table) (classes : Classes) →
+pub at_lines-exchanged : (R S : Class → TableLine → Type 0) (i j : ℕ) (left : TableLine) (table : Table)
+    (classes : Classes) →
     length classes.lines ≡ length table.lines → i < length table.lines →
-    ((c : Class) (line : Line) → R c line → S c (entered j left line)) →
+    ((c : Class) (line : TableLine) → R c line → S c (entered j left line)) →
     S (class_at classes.columns j) (solved_line j left table) →
     AtPlaces no_class no_line R classes.lines table.lines →
     AtPlaces no_class no_line S (classes_exchanged i j classes).lines (exchanged i j left table).lines
@@ -111,7 +112,7 @@ at_lines-exchanged R S i j left table classes e h f last r =
     (λ k l. f (get_or cs k no_class) (get_or ls k no_line)
     (places-remove no_class no_line R classes.lines table.lines i e h r k l)))
 
-pub fit-exchanged : (rows : RowList) (i j : ℕ) (left : Line) (table : Table) (classes : Classes) →
+pub fit-exchanged : (rows : RowList) (i j : ℕ) (left : TableLine) (table : Table) (classes : Classes) →
     Fit rows table classes → slice_get table.lines i ≡ Some left → j < length table.nonbasic →
     Fit rows (exchanged i j left table) (classes_exchanged i j classes)
 fit-exchanged rows i j left table classes f at l =
@@ -123,7 +124,8 @@ fit-exchanged rows i j left table classes f at l =
     let hc : i < length classes.lines = omega (arith, f.lines, h) in
     let lc : j < length classes.columns = omega (arith, f.columns, l) in
     record {
-      lines = long_after Class Line (remove classes.lines i) (map (entered j left) ls) right (solved_line j left table)
+      lines = long_after Class TableLine (remove classes.lines i) (map (entered j left) ls) right
+          (solved_line j left table)
           (removed_long classes.lines table.lines i f.lines hc ∙ sym (length-map ls (entered j left)));
       columns = length-set classes.columns j mine ∙ f.columns ∙ sym (length-set table.nonbasic j left.basic);
       of_lines = All-push (IsClass rows) (remove classes.lines i) right (All-remove (IsClass rows) classes.lines i
@@ -132,19 +134,19 @@ fit-exchanged rows i j left table classes f at l =
       basic = at_lines-exchanged (λ c line. IsIn c line.basic) (λ c line. IsIn c line.basic) i j left table classes
           f.lines h (λ c line r. r) (f.nonbasic j l) f.basic;
       nonbasic = places-set no_class 0 IsIn classes.columns table.nonbasic j mine left.basic f.columns
-          (subst (λ (x : Line). IsIn mine x.basic) is (f.basic i h)) f.nonbasic;
+          (subst (λ (x : TableLine). IsIn mine x.basic) is (f.basic i h)) f.nonbasic;
       cover = λ v q. cover-exchanged i j v classes hc lc (f.cover v q);
     }
 
 -- ---- the full table after the exchange
-module _ (rows : RowList) (i k j : ℕ) (left : Line) (table : Table) (classes : Classes) (full : Table)
+module _ (rows : RowList) (i k j : ℕ) (left : TableLine) (table : Table) (classes : Classes) (full : Table)
     (of_rows : IsTableOfRows rows full) (stands : StandsFor rows table classes full)
     (may : MayExchange k j left full) (at : slice_get table.lines i ≡ Some left) where
   after : (v : ℕ) → line_of (exchanged k j left full) v ≡ entered j left (line_of full v)
   after v = line_of-exchanged rows k j left full v of_rows may
 
   -- lines with the same numbers have the same after it
-  entered_alike : (line : Line) (v : ℕ) → SameNumbers line (line_of full v) →
+  entered_alike : (line : TableLine) (v : ℕ) → SameNumbers line (line_of full v) →
       SameNumbers (entered j left line) (line_of (exchanged k j left full) v)
   entered_alike line v s = same_by (entered j left line) (entered j left (line_of full v)) (entered j left line)
       (line_of (exchanged k j left full) v) refl (after v) (entered_named j left line (line_of full v) s)
@@ -196,7 +198,7 @@ module _ (rows : RowList) (i k j : ℕ) (left : Line) (table : Table) (classes :
             classes.columns table.nonbasic j mine left.basic stands.fit.columns
             (λ v q. both_after left.basic v
             (alike (line_at table.lines i) (line_of full left.basic) (line_of full v)
-            (stands.lines i left.basic h (subst (λ (x : Line). IsIn mine x.basic) is (stands.fit.basic i h)))
+            (stands.lines i left.basic h (subst (λ (x : TableLine). IsIn mine x.basic) is (stands.fit.basic i h)))
             (stands.lines i v h q)))
             (λ n l v q. both_after (column_at table n) v (stands.columns n v l q)) n l v q;
       }

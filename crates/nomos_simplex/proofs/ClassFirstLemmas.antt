@@ -12,7 +12,7 @@ use Rattle.nomos_simplex.specs.GoalLine.{line_or_itself, line_of}
 use Rattle.nomos_simplex.specs.Nearest.{line_at}
 use Rattle.nomos_simplex.specs.Tables.{lines_from, first_table}
 use Rattle.nomos_simplex.specs.declared.classes.Class.{Class}
-use Rattle.nomos_simplex.specs.declared.table.Line.{Line}
+use Rattle.nomos_simplex.specs.declared.table.TableLine.{TableLine}
 use Rattle.nomos_simplex.specs.mirror.Classes.{IsIn, coefs_or_none, coefs_of, IsClass, class_of_star, class_at, IsInOne, Fit, SameNumbers, StandsFor, line_of_class, table_of_classes}
 use Rattle.nomos_simplex.proofs.ClassLemmas.{no_class, no_line}
 use Rattle.nomos_simplex.proofs.FirstLemmas.{length-lines_from, get_or-lines_from}
@@ -45,7 +45,7 @@ pub line_of-first : (rows : RowList) (v : ℕ) → rows.stars < v → v ≤ rows
 line_of-first rows v low high =
     let m = v - rows.stars - 1 in
     let no_row : Row = record { coefs = []; least = pos 0 } in
-    let no_line : Line = record { times = pos 1; basic = v; coefs = [] } in
+    let no_line : TableLine = record { times = pos 1; basic = v; coefs = [] } in
     let within : m < length rows.rows = omega (arith, low, high) in
     let number : rows.stars + 1 + m ≡ v = omega (arith, low) in
     let lines = lines_from (rows.stars + 1) rows.rows in
@@ -55,7 +55,7 @@ line_of-first rows v low high =
     let once = (first-has_each_once rows).once v in
     ap (line_or_itself (range_with_len 1 rows.stars) v)
     (finds v lines m no_line (omega (arith, within, length-lines_from (rows.stars + 1) rows.rows))
-    (ap (λ (line : Line). line.basic) there ∙ number) (omega (arith, once)))
+    (ap (λ (line : TableLine). line.basic) there ∙ number) (omega (arith, once)))
     ∙ there
     ∙ (λ p. record { times = pos 1; basic = number p; coefs = row p })
 
@@ -101,8 +101,8 @@ class_numbers : (rows : RowList) (class : Class) (v : ℕ) → IsClass rows clas
 class_numbers rows class v c above i =
     let e = line_of-first rows v (omega (arith, above, i.from)) (omega (arith, c.most, i.to)) in
     record {
-      times = sym (ap (λ (line : Line). line.times) e);
-      coefs = sym (ap (λ (line : Line). line.coefs) e ∙ alike_first rows class v c i);
+      times = sym (ap (λ (line : TableLine). line.times) e);
+      coefs = sym (ap (λ (line : TableLine). line.coefs) e ∙ alike_first rows class v c i);
     }
 
 first-fit : (rows : RowList) (cs : List Class) → All (IsClass rows) cs →
@@ -116,7 +116,7 @@ first-fit rows cs are_classes covered = record {
   of_columns = star_classes rows;
   basic = λ i h.
       let c = are_classes i no_class (omega (arith, h, length-map cs (line_of_class rows))) in
-      subst (λ (line : Line). IsIn (class_at cs i) line.basic) (sym (class_line rows cs i h))
+      subst (λ (line : TableLine). IsIn (class_at cs i) line.basic) (sym (class_line rows cs i h))
       (record { from = omega arith; to = c.some });
   nonbasic = λ j h.
       subst (λ class. IsIn class (get_or (range_with_len 1 rows.stars) j 0)) (sym (star_class rows.stars j h))

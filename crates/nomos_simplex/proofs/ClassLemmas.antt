@@ -8,7 +8,7 @@ use Rattle.nomos_simplex.specs.Nearest.{line_at}
 use Rattle.nomos_simplex.specs.Sizes.{IsVariable}
 use Rattle.nomos_simplex.specs.declared.classes.Class.{Class}
 use Rattle.nomos_simplex.specs.declared.classes.Classes.{Classes}
-use Rattle.nomos_simplex.specs.declared.table.Line.{Line}
+use Rattle.nomos_simplex.specs.declared.table.TableLine.{TableLine}
 use Rattle.nomos_simplex.specs.declared.table.Table.{Table}
 use Rattle.nomos_simplex.specs.mirror.Classes.{IsIn, IsClass, class_at, column_at, Fit, SameNumbers, StandsFor}
 use Rattle.nomos_simplex.proofs.AmountLemmas.{found_passes}
@@ -19,7 +19,7 @@ use Rattle.nomos_simplex.proofs.VariableLemmas.{nonbasic_times, HasEachOnce, not
 abbrev pub no_class : Class
 no_class = record { first = 1; last = 0 }
 
-abbrev pub no_line : Line
+abbrev pub no_line : TableLine
 no_line = line_at [] 0
 
 -- ---- classes
@@ -45,17 +45,17 @@ next-in rows table classes j f l less =
     record { from = omega (arith, (f.nonbasic j l).from); to = omega (arith, less) }
 
 -- ---- lines with the same numbers
-pub same_back : (a b : Line) → SameNumbers a b → SameNumbers b a
+pub same_back : (a b : TableLine) → SameNumbers a b → SameNumbers b a
 same_back a b s = record { times = sym s.times; coefs = sym s.coefs }
 
-pub alike : (a b c : Line) → SameNumbers a b → SameNumbers a c → SameNumbers b c
+pub alike : (a b c : TableLine) → SameNumbers a b → SameNumbers a c → SameNumbers b c
 alike a b c s t = record { times = sym s.times ∙ t.times; coefs = sym s.coefs ∙ t.coefs }
 
-pub same_by : (a b c d : Line) → c ≡ a → d ≡ b → SameNumbers a b → SameNumbers c d
+pub same_by : (a b c d : TableLine) → c ≡ a → d ≡ b → SameNumbers a b → SameNumbers c d
 same_by a b c d e f s = subst (λ x. SameNumbers x d) (sym e) (subst (SameNumbers a) (sym f) s)
 
 -- and the same variable are equal
-pub same_line : (a b : Line) → SameNumbers a b → a.basic ≡ b.basic → a ≡ b
+pub same_line : (a b : TableLine) → SameNumbers a b → a.basic ≡ b.basic → a ≡ b
 same_line a b s e = λ p. record { times = s.times p; basic = e p; coefs = s.coefs p }
 
 -- ---- a nonbasic variable itself: 1 where it is, and 0 elsewhere
@@ -77,18 +77,19 @@ unit_elsewhere v w n = of_test (w == v) refl
 pub line_of-basic : (table : Table) (v : ℕ) → (line_of table v).basic ≡ v
 line_of-basic table v = of_found (find (λ line. line.basic == v) table.lines) refl
   where
-    of_found : (o : Option Line) → find (λ line. line.basic == v) table.lines ≡ o →
+    of_found : (o : Option TableLine) → find (λ line. line.basic == v) table.lines ≡ o →
         (line_or_itself table.nonbasic v o).basic ≡ v
     of_found (Some line) e =
         eqb-true line.basic v (found_passes (λ line. Unit) (λ line. line.basic == v) table.lines line (λ k d l. tt) e).1
     of_found None e = refl
 
 -- what is known of each line and of each variable itself is known of it
-pub line_of-passes : (P : Line → Type 0) (table : Table) (v : ℕ) → All P table.lines → P (itself table.nonbasic v) →
+pub line_of-passes : (P : TableLine → Type 0) (table : Table) (v : ℕ) → All P table.lines → P (itself table.nonbasic v)
+    →
     P (line_of table v)
 line_of-passes P table v lines own = of_found (find (λ line. line.basic == v) table.lines) refl
   where
-    of_found : (o : Option Line) → find (λ line. line.basic == v) table.lines ≡ o →
+    of_found : (o : Option TableLine) → find (λ line. line.basic == v) table.lines ≡ o →
         P (line_or_itself table.nonbasic v o)
     of_found (Some line) e = (found_passes P (λ line. line.basic == v) table.lines line lines e).0
     of_found None e = own
@@ -105,16 +106,17 @@ pub record IsNonbasic (table : Table) (v : ℕ) : Type 0 where
   pub is : line_of table v ≡ itself table.nonbasic v
 
 -- what is found is at a place
-record HasPlace (lines : List Line) (line : Line) : Type 0 where
+record HasPlace (lines : List TableLine) (line : TableLine) : Type 0 where
   place : ℕ
   within : place < length lines
   is : line_at lines place ≡ line
 
-found_place : (p : Line → Bool) (lines : List Line) (line : Line) → find p lines ≡ Some line → HasPlace lines line
+found_place : (p : TableLine → Bool) (lines : List TableLine) (line : TableLine) → find p lines ≡ Some line
+    → HasPlace lines line
 found_place p lines line e = (found_passes (HasPlace lines) p lines line
     (λ k d l. record { place = k; within = l; is = get_or_default lines k no_line d l }) e).0
 
-either_line : (rows : RowList) (table : Table) (v : ℕ) (o : Option Line) → HasEachOnce rows table →
+either_line : (rows : RowList) (table : Table) (v : ℕ) (o : Option TableLine) → HasEachOnce rows table →
     IsVariable rows v → find (λ line. line.basic == v) table.lines ≡ o → IsBasic table v ⊎ IsNonbasic table v
 either_line rows table v (Some line) h w e =
     let at = found_place (λ line. line.basic == v) table.lines line e in
@@ -134,7 +136,8 @@ pub basic_or_nonbasic : (rows : RowList) (table : Table) (v : ℕ) → HasEachOn
 basic_or_nonbasic rows table v h w = either_line rows table v (find (λ line. line.basic == v) table.lines) h w refl
 
 -- the line at a place is that of its variable
-pub basic_line : (rows : RowList) (table : Table) (k : ℕ) (d : Line) → HasEachOnce rows table → k < length table.lines →
+pub basic_line : (rows : RowList) (table : Table) (k : ℕ) (d : TableLine) → HasEachOnce rows table
+    → k < length table.lines →
     line_of table (get_or table.lines k d).basic ≡ get_or table.lines k d
 basic_line rows table k d h l =
     let v = (get_or table.lines k d).basic in

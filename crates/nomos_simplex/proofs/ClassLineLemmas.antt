@@ -16,7 +16,7 @@ use Rattle.nomos_simplex.specs.Divisors.{in_lowest_terms}
 use Rattle.nomos_simplex.specs.Exchange.{coef_at, solved_for, eliminated, put_into, exchanged}
 use Rattle.nomos_simplex.specs.GoalLine.{itself, line_or_itself, line_of}
 use Rattle.nomos_simplex.specs.Sizes.{IsLowest}
-use Rattle.nomos_simplex.specs.declared.table.Line.{Line}
+use Rattle.nomos_simplex.specs.declared.table.TableLine.{TableLine}
 use Rattle.nomos_simplex.specs.declared.table.Table.{Table}
 use Rattle.nomos_simplex.specs.mirror.Classes.{SameNumbers}
 use Rattle.nomos_simplex.specs.mirror.Opposite.{opposite_of, oriented_of}
@@ -32,35 +32,35 @@ use Rattle.nomos_simplex.proofs.TableLaws.{IsTableOfRows}
 use Rattle.nomos_simplex.proofs.VariableLemmas.{nonbasic_times, basic_times, HasEachOnce, exchanged_times, not_found, finds}
 
 -- ---- lines with the same numbers
-renamed : (a b : Line) → SameNumbers a b → record a { basic = b.basic } ≡ b
+renamed : (a b : TableLine) → SameNumbers a b → record a { basic = b.basic } ≡ b
 renamed a b s = λ p. record { times = s.times p; basic = b.basic; coefs = s.coefs p }
 
 -- with the same put in, they have the same numbers again
-pub entered_named : (j : ℕ) (left a b : Line) → SameNumbers a b → SameNumbers (entered j left a) (entered j left b)
+pub entered_named : (j : ℕ) (left a b : TableLine) → SameNumbers a b → SameNumbers (entered j left a) (entered j left b)
 entered_named j left a b s =
     let e = ap (entered j left) (renamed a b s) in
-    record { times = ap (λ (line : Line). line.times) e; coefs = ap (λ (line : Line). line.coefs) e }
+    record { times = ap (λ (line : TableLine). line.times) e; coefs = ap (λ (line : TableLine). line.coefs) e }
 
 -- and put into a line, they leave the same
-pub entered_by : (j : ℕ) (left left' a : Line) → SameNumbers left left' → entered j left a ≡ entered j left' a
+pub entered_by : (j : ℕ) (left left' a : TableLine) → SameNumbers left left' → entered j left a ≡ entered j left' a
 entered_by j left left' a s = ap (λ line. entered j line a) (renamed left left' s)
 
 -- ---- a line times a number that is not 0
-abbrev times_line : ℤ → Line → Line
+abbrev times_line : ℤ → TableLine → TableLine
 times_line p line = record line { times = p *ℤ line.times; coefs = map (λ c. p *ℤ c) line.coefs }
 
 turned_all : (p : ℕ) (cs : List ℤ) → map (λ c. negsuc p *ℤ c) cs ≡ map neg_ℤ (map (λ c. pos (suc p) *ℤ c) cs)
 turned_all p [] = refl
 turned_all p (c ∷ cs) = λ q. neg_times (pos (suc p)) c q ∷ turned_all p cs q
 
-times_turned : (p : ℕ) (line : Line) → times_line (negsuc p) line ≡ opposite_of (times_line (pos (suc p)) line)
+times_turned : (p : ℕ) (line : TableLine) → times_line (negsuc p) line ≡ opposite_of (times_line (pos (suc p)) line)
 times_turned p line = λ q. record {
   times = neg_times (pos (suc p)) line.times q;
   basic = line.basic;
   coefs = turned_all p line.coefs q;
 }
 
-lowest_of_times : (p : ℤ) (line : Line) → ¬ (p ≡ pos 0) → pos 0 <ℤ line.times → IsLowest line →
+lowest_of_times : (p : ℤ) (line : TableLine) → ¬ (p ≡ pos 0) → pos 0 <ℤ line.times → IsLowest line →
     in_lowest_terms (times_line p line) ≡ line
 lowest_of_times (pos zero) line n over low = absurd (n refl)
 lowest_of_times (pos (suc p)) line n over low = lowest_times (suc p) line (omega arith) over low
@@ -72,7 +72,7 @@ lowest_of_times (negsuc p) line n over low =
     ∙ lowest_times (suc p) line (omega arith) over low
 
 -- a line without the entering variable stays as it is
-pub not_entered : (j : ℕ) (left line : Line) → j < length left.coefs → length line.coefs ≡ length left.coefs →
+pub not_entered : (j : ℕ) (left line : TableLine) → j < length left.coefs → length line.coefs ≡ length left.coefs →
     ¬ (coef_at j left ≡ pos 0) → pos 0 <ℤ line.times → coef_at j line ≡ pos 0 → IsLowest line →
     entered j left line ≡ line
 not_entered j left line h w n over none low =
@@ -128,7 +128,7 @@ put_out p m (c ∷ cs) [] h = absurd (omega arith)
 put_out p m (c ∷ cs) (v ∷ vs) h =
     λ q. (minus_itself (p *ℤ c) (p *ℤ c) refl ∙ sym (*ℤ-zero m)) q ∷ put_out p m cs vs (omega arith) q
 
-put_into_itself : (j : ℕ) (left : Line) (vs : List ℕ) → length left.coefs ≡ length vs →
+put_into_itself : (j : ℕ) (left : TableLine) (vs : List ℕ) → length left.coefs ≡ length vs →
     nonbasic_times left.basic vs ≡ 0 → put_into j left left ≡
     times_line (coef_at j left *ℤ left.times) (itself (set vs j left.basic) left.basic)
 put_into_itself j left vs h none =
@@ -142,7 +142,7 @@ put_into_itself j left vs h none =
     ∙ ap (map (λ c. m *ℤ c)) (sym (map-set (unit_of w) vs j w)) in
     λ q. record { times = times_one m q; basic = w; coefs = coefs q }
 
-pub left-entered : (j : ℕ) (left : Line) (vs : List ℕ) → length left.coefs ≡ length vs →
+pub left-entered : (j : ℕ) (left : TableLine) (vs : List ℕ) → length left.coefs ≡ length vs →
     nonbasic_times left.basic vs ≡ 0 → ¬ (coef_at j left ≡ pos 0) → pos 0 <ℤ left.times →
     entered j left left ≡ itself (set vs j left.basic) left.basic
 left-entered j left vs h none n over =
@@ -174,7 +174,7 @@ solved_units p x (v ∷ vs) [] j h = absurd (omega arith)
 solved_units p x (v ∷ vs) (c ∷ cs) zero h = λ q. x ∷ all_turned p vs cs (omega arith) q
 solved_units p x (v ∷ vs) (c ∷ cs) (suc j) h = λ q. turned p c q ∷ solved_units p x vs cs j (omega arith) q
 
-put_into_column : (j : ℕ) (left : Line) (vs : List ℕ) → j < length vs → length left.coefs ≡ length vs →
+put_into_column : (j : ℕ) (left : TableLine) (vs : List ℕ) → j < length vs → length left.coefs ≡ length vs →
     nonbasic_times (get_or vs j 0) vs ≤ 1 →
     put_into j left (itself vs (get_or vs j 0)) ≡ solved_for j (get_or vs j 0) left
 put_into_column j left vs h w once =
@@ -191,33 +191,35 @@ put_into_column j left vs h w once =
     λ q. record { times = sym (times_one p) q; basic = e; coefs = coefs q }
 
 -- ---- what is found after an exchange
-abbrev map_line : (Line → Line) → Option Line → Option Line
+abbrev map_line : (TableLine → TableLine) → Option TableLine → Option TableLine
 map_line f (Some line) = Some (f line)
 map_line f None = None
 
-map_found : (f : Line → Line) (t : Bool) (x : Line) (o u : Option Line) → o ≡ map_line f u →
+map_found : (f : TableLine → TableLine) (t : Bool) (x : TableLine) (o u : Option TableLine) → o ≡ map_line f u →
     cond t (Some (f x)) o ≡ map_line f (cond t (Some x) u)
 map_found f true x o u e = refl
 map_found f false x o u e = e
 
-find-map : (f : Line → Line) (p : Line → Bool) (xs : List Line) → ((x : Line) → p (f x) ≡ p x) →
+find-map : (f : TableLine → TableLine) (p : TableLine → Bool) (xs : List TableLine) → ((x : TableLine) → p (f x) ≡ p x)
+    →
     find p (map f xs) ≡ map_line f (find p xs)
 find-map f p [] h = refl
 find-map f p (x ∷ xs) h = ap (λ t. cond t (Some (f x)) (find p (map f xs))) (h x)
     ∙ map_found f (p x) x (find p (map f xs)) (find p xs) (find-map f p xs h)
 
-find-remove : (p : Line → Bool) (xs : List Line) (i : ℕ) (d : Line) → i < length xs → p (get_or xs i d) ≡ false →
+find-remove : (p : TableLine → Bool) (xs : List TableLine) (i : ℕ) (d : TableLine) → i < length xs
+    → p (get_or xs i d) ≡ false →
     find p (remove xs i) ≡ find p xs
 find-remove p [] i d h e = absurd (omega arith)
 find-remove p (x ∷ xs) zero d h e = sym (ap (λ t. cond t (Some x) (find p xs)) e)
 find-remove p (x ∷ xs) (suc i) d h e = ap (cond (p x) (Some x)) (find-remove p xs i d (omega arith) e)
 
-find_exchanged : (i j : ℕ) (left : Line) (table : Table) (v : ℕ) →
+find_exchanged : (i j : ℕ) (left : TableLine) (table : Table) (v : ℕ) →
     find (λ line. line.basic == v) (exchanged i j left table).lines ≡ option_or
     (map_line (entered j left) (find (λ line. line.basic == v) (remove table.lines i)))
     (cond (get_or table.nonbasic j 0 == v) (Some (solved_line j left table)) None)
 find_exchanged i j left table v =
-    let p = λ (line : Line). line.basic == v in
+    let p = λ (line : TableLine). line.basic == v in
     let others = remove table.lines i in
     find-append p (map (entered j left) others) (solved_line j left table ∷ [])
     ∙ ap (λ o. option_or o (find p (solved_line j left table ∷ [])))
@@ -225,14 +227,14 @@ find_exchanged i j left table v =
 
 -- ---- the theorem
 -- the variable that leaves is basic before, and nonbasic after the exchange
-left_is_basic : (i j : ℕ) (left : Line) (table : Table) → MayExchange i j left table →
+left_is_basic : (i j : ℕ) (left : TableLine) (table : Table) → MayExchange i j left table →
     0 < basic_times left.basic table.lines
 left_is_basic i j left table m =
     counted (λ line. line.basic == left.basic) table.lines i left (slice_get_within table.lines i left m.place)
     (eq-eqb (get_or table.lines i left).basic left.basic
-    (ap (λ (line : Line). line.basic) (get_or_from_slice_get table.lines i left left m.place)))
+    (ap (λ (line : TableLine). line.basic) (get_or_from_slice_get table.lines i left left m.place)))
 
-line_of-left : (rows : RowList) (i j : ℕ) (left : Line) (table : Table) → HasEachOnce rows table →
+line_of-left : (rows : RowList) (i j : ℕ) (left : TableLine) (table : Table) → HasEachOnce rows table →
     MayExchange i j left table →
     line_of (exchanged i j left table) left.basic ≡ entered j left (line_of table left.basic)
 line_of-left rows i j left table h m =
@@ -244,7 +246,7 @@ line_of-left rows i j left table h m =
     let place = slice_get_within table.lines i left m.place in
     let before : line_of table w ≡ left =
     ap (line_or_itself table.nonbasic w)
-    (finds w table.lines i left place (ap (λ (line : Line). line.basic) here) (omega arith)) ∙ here in
+    (finds w table.lines i left place (ap (λ (line : TableLine). line.basic) here) (omega arith)) ∙ here in
     let now = counted (λ v. v == w) (set table.nonbasic j w) j 0
     (omega (arith, length-set table.nonbasic j w, m.column))
     (eq-eqb (get_or (set table.nonbasic j w) j 0) w (get_or-set_same table.nonbasic j w 0 m.column)) in
@@ -255,7 +257,8 @@ line_of-left rows i j left table h m =
     ∙ ap (entered j left) (sym before)
 
 -- neither the variable that leaves nor that of column j, and without a line
-itself-entered : (i j : ℕ) (left : Line) (table : Table) (v : ℕ) → MayExchange i j left table → ¬ (left.basic ≡ v) →
+itself-entered : (i j : ℕ) (left : TableLine) (table : Table) (v : ℕ) → MayExchange i j left table → ¬ (left.basic ≡ v)
+    →
     ¬ (get_or table.nonbasic j 0 ≡ v) →
     itself (set table.nonbasic j left.basic) v ≡ entered j left (itself table.nonbasic v)
 itself-entered i j left table v m apart other =
@@ -275,7 +278,7 @@ itself-entered i j left table v m apart other =
     (below_in (pos 0) (pos 1) (omega arith)) none (common_one (map (unit_of v) vs)))
 
 -- the variable of column j
-pub column-entered : (rows : RowList) (i j : ℕ) (left : Line) (table : Table) → HasEachOnce rows table →
+pub column-entered : (rows : RowList) (i j : ℕ) (left : TableLine) (table : Table) → HasEachOnce rows table →
     MayExchange i j left table →
     solved_line j left table ≡ entered j left (itself table.nonbasic (get_or table.nonbasic j 0))
 column-entered rows i j left table h m =
@@ -284,7 +287,8 @@ column-entered rows i j left table h m =
     sym (ap in_lowest_terms (put_into_column j left table.nonbasic m.column own.width (omega arith)))
 
 -- without a line, by whether it is that of column j
-line_of-none : (rows : RowList) (i j : ℕ) (left : Line) (table : Table) (v : ℕ) (t : Bool) → HasEachOnce rows table →
+line_of-none : (rows : RowList) (i j : ℕ) (left : TableLine) (table : Table) (v : ℕ) (t : Bool) → HasEachOnce rows table
+    →
     MayExchange i j left table → ¬ (left.basic ≡ v) → get_or table.nonbasic j 0 == v ≡ t →
     line_or_itself (set table.nonbasic j left.basic) v (cond t (Some (solved_line j left table)) None) ≡
     entered j left (itself table.nonbasic v)
@@ -296,7 +300,7 @@ line_of-none rows i j left table v false h m apart e =
     (λ same. false≢true (sym e ∙ eq-eqb (get_or table.nonbasic j 0) v same))
 
 -- any but the one that leaves, by the line that is found
-line_of-other : (rows : RowList) (i j : ℕ) (left : Line) (table : Table) (v : ℕ) (o : Option Line) →
+line_of-other : (rows : RowList) (i j : ℕ) (left : TableLine) (table : Table) (v : ℕ) (o : Option TableLine) →
     HasEachOnce rows table → MayExchange i j left table → ¬ (left.basic ≡ v) →
     line_or_itself (set table.nonbasic j left.basic) v (option_or (map_line (entered j left) o)
     (cond (get_or table.nonbasic j 0 == v) (Some (solved_line j left table)) None)) ≡
@@ -305,14 +309,14 @@ line_of-other rows i j left table v (Some line) h m apart = refl
 line_of-other rows i j left table v None h m apart =
     line_of-none rows i j left table v (get_or table.nonbasic j 0 == v) h m apart refl
 
-line_of-by_test : (rows : RowList) (i j : ℕ) (left : Line) (table : Table) (v : ℕ) (t : Bool) →
+line_of-by_test : (rows : RowList) (i j : ℕ) (left : TableLine) (table : Table) (v : ℕ) (t : Bool) →
     HasEachOnce rows table → MayExchange i j left table → left.basic == v ≡ t →
     line_of (exchanged i j left table) v ≡ entered j left (line_of table v)
 line_of-by_test rows i j left table v true h m e =
     subst (λ w. line_of (exchanged i j left table) w ≡ entered j left (line_of table w)) (eqb-true left.basic v e)
     (line_of-left rows i j left table h m)
 line_of-by_test rows i j left table v false h m e =
-    let p = λ (line : Line). line.basic == v in
+    let p = λ (line : TableLine). line.basic == v in
     let here = get_or_from_slice_get table.lines i left left m.place in
     let vs = set table.nonbasic j left.basic in
     let last = cond (get_or table.nonbasic j 0 == v) (Some (solved_line j left table)) None in
@@ -324,11 +328,12 @@ line_of-by_test rows i j left table v false h m e =
 
 -- An exchange does to the line of each variable the same. No more is asked of the table than that each stands in it
 -- once.
-pub line_of-exchanged_once : (rows : RowList) (i j : ℕ) (left : Line) (table : Table) (v : ℕ) →
+pub line_of-exchanged_once : (rows : RowList) (i j : ℕ) (left : TableLine) (table : Table) (v : ℕ) →
     HasEachOnce rows table → MayExchange i j left table →
     line_of (exchanged i j left table) v ≡ entered j left (line_of table v)
 line_of-exchanged_once rows i j left table v h m = line_of-by_test rows i j left table v (left.basic == v) h m refl
 
-pub line_of-exchanged : (rows : RowList) (i j : ℕ) (left : Line) (table : Table) (v : ℕ) → IsTableOfRows rows table →
+pub line_of-exchanged : (rows : RowList) (i j : ℕ) (left : TableLine) (table : Table) (v : ℕ) → IsTableOfRows rows table
+    →
     MayExchange i j left table → line_of (exchanged i j left table) v ≡ entered j left (line_of table v)
 line_of-exchanged rows i j left table v t m = line_of-exchanged_once rows i j left table v t.each_once m

@@ -10,7 +10,7 @@ use Rattle.nomos_forms.specs.declared.row_list.RowList.{RowList}
 use Rattle.nomos_simplex.specs.Exits.{fractions, found_or_large, weight_of}
 use Rattle.nomos_simplex.specs.GoalLine.{goal_line}
 use Rattle.nomos_simplex.specs.LeastRun.{Exchanges, proof_of, weights_above, is_total, least_or_large}
-use Rattle.nomos_simplex.specs.Lowest.{lowest_place}
+use Rattle.nomos_simplex.specs.LowestVariable.{lowest_place}
 use Rattle.nomos_simplex.specs.Nearest.{lowering, nearest, line_at}
 use Rattle.nomos_simplex.specs.Sizes.{IsLine}
 use Rattle.nomos_simplex.specs.declared.classes.Classed.{Classed}
@@ -20,7 +20,7 @@ use Rattle.nomos_simplex.specs.declared.solved.Solved.TheVariants as solved
 use Rattle.nomos_simplex.specs.declared.solved.SolvedLeast.{SolvedLeast}
 use Rattle.nomos_simplex.specs.declared.solved.SolvedLeast.TheVariants as least
 use Rattle.nomos_simplex.specs.declared.solved.Stop.TheVariants as stop
-use Rattle.nomos_simplex.specs.declared.table.Line.{Line}
+use Rattle.nomos_simplex.specs.declared.table.TableLine.{TableLine}
 use Rattle.nomos_simplex.specs.declared.table.Table.{Table}
 use Rattle.nomos_simplex.specs.mirror.Classes.{IsReached, IsKept, ShowsFull}
 use Rattle.nomos_simplex.specs.mirror.Steps.{KeptFits, StandsAt, EndsFoundAt, LowersTo}
@@ -104,15 +104,15 @@ module _ (rows : RowList) (goal : Form) (pivots : ℕ) (at : Aimed) (f : IsForm 
       (found_low pivots rows r.full a.of_rows a.none)
 
 -- ---- the same nonbasic variables give the same
-abbrev lowering_of : (line : Line) (vs : List ℕ) → Option ℕ
+abbrev lowering_of : (line : TableLine) (vs : List ℕ) → Option ℕ
 lowering_of line vs =
     lowest_place (λ j. int_lt (get_or line.coefs j (pos 0)) (pos 0)) (λ j. get_or vs j 0) (length vs)
 
-pub lowering-stands : (table full : Table) (line : Line) → table.nonbasic ≡ full.nonbasic →
+pub lowering-stands : (table full : Table) (line : TableLine) → table.nonbasic ≡ full.nonbasic →
     lowering table line ≡ lowering full line
 lowering-stands table full line e = ap (lowering_of line) e
 
-pub proof_of-stands : (rows : RowList) (table full : Table) (line : Line) (total : ℕ) →
+pub proof_of-stands : (rows : RowList) (table full : Table) (line : TableLine) (total : ℕ) →
     table.nonbasic ≡ full.nonbasic → proof_of rows table line total ≡ proof_of rows full line total
 proof_of-stands rows table full line total e = λ p. record {
   scale = unsigned_abs line.times;
@@ -120,7 +120,7 @@ proof_of-stands rows table full line total e = λ p. record {
   total = total;
 }
 
-least-stands : (pivots : ℕ) (rows : RowList) (goal : Form) (table full : Table) (line : Line) (s : Solved) →
+least-stands : (pivots : ℕ) (rows : RowList) (goal : Form) (table full : Table) (line : TableLine) (s : Solved) →
     table.nonbasic ≡ full.nonbasic →
     least_or_large pivots rows goal table line s ≡ least_or_large pivots rows goal full line s
 least-stands pivots rows goal table full line (solved.Found f) e =
@@ -131,7 +131,7 @@ least-stands pivots rows goal table full line (solved.Refuted verdict) e = refl
 least-stands pivots rows goal table full line (solved.Unsolved s) e = refl
 
 -- the end, from what is found from what is kept
-pub end-stands : (pivots : ℕ) (rows : RowList) (goal : Form) (classed : Classed) (full : Table) (line : Line)
+pub end-stands : (pivots : ℕ) (rows : RowList) (goal : Form) (classed : Classed) (full : Table) (line : TableLine)
     (s : Solved) → IsReached rows full → ShowsFull rows classed full →
     s ≡ found_or_large pivots (fractions rows classed.kept.table) →
     least_or_large pivots rows goal classed.kept.table line s ≡
@@ -150,7 +150,8 @@ without_total : (t : Bool) (x : ℕ) (made other : SolvedLeast) → cond t (Some
 without_total true x made other e = absurd (none-some x (sym e))
 without_total false x made other e = refl
 
-pub ends_found : (pivots : ℕ) (rows : RowList) (goal : Form) (table : Table) (line : Line) (f : Found) (total : ℕ) →
+pub ends_found : (pivots : ℕ) (rows : RowList) (goal : Form) (table : Table) (line : TableLine) (f : Found) (total : ℕ)
+    →
     cond (is_total (form_value f.stars f.unit goal)) (Some (unsigned_abs (form_value f.stars f.unit goal))) None ≡
     Some total →
     least_or_large pivots rows goal table line (solved.Found f) ≡ least.Found f (proof_of rows table line total)
@@ -159,7 +160,7 @@ ends_found pivots rows goal table line f total e =
     with_total (is_total value) (unsigned_abs value) total (λ n. least.Found f (proof_of rows table line n))
     (least.Unsolved (stop.Large pivots)) e
 
-pub ends_large : (pivots : ℕ) (rows : RowList) (goal : Form) (table : Table) (line : Line) (f : Found) →
+pub ends_large : (pivots : ℕ) (rows : RowList) (goal : Form) (table : Table) (line : TableLine) (f : Found) →
     cond (is_total (form_value f.stars f.unit goal)) (Some (unsigned_abs (form_value f.stars f.unit goal))) None ≡
     None → least_or_large pivots rows goal table line (solved.Found f) ≡ least.Unsolved (stop.Large pivots)
 ends_large pivots rows goal table line f e =

@@ -11,7 +11,7 @@ use Rattle.nomos_simplex.specs.Nearest.{distance, reach, is_less, is_nearer, lin
 use Rattle.nomos_simplex.specs.Sizes.{IsVariable}
 use Rattle.nomos_simplex.specs.Tables.{bound_of, sum_at}
 use Rattle.nomos_simplex.specs.declared.classes.Classes.{Classes}
-use Rattle.nomos_simplex.specs.declared.table.Line.{Line}
+use Rattle.nomos_simplex.specs.declared.table.TableLine.{TableLine}
 use Rattle.nomos_simplex.specs.declared.table.Table.{Table}
 use Rattle.nomos_simplex.specs.mirror.Classes.{IsIn, class_at, IsInOne, column_at, StandsFor, named, Lead}
 use Rattle.nomos_simplex.proofs.AmountLemmas.{NoneBelow}
@@ -27,12 +27,12 @@ use Rattle.nomos_simplex.proofs.VariableLemmas.{HasEachOnce}
 -- ---- which line comes first
 -- A line comes no later than another: its reach is at most that of the other, and where both are the same, its
 -- variable is.
-record ComesBefore (rows : RowList) (vs : List ℕ) (j : ℕ) (x y : Line) : Type 0 where
+record ComesBefore (rows : RowList) (vs : List ℕ) (j : ℕ) (x y : TableLine) : Type 0 where
   least : AtMost (reach rows vs j x) (reach rows vs j y)
   lower : AtMost (reach rows vs j y) (reach rows vs j x) → x.basic ≤ y.basic
 
 -- the coefficient of a line in the column is below 0
-abbrev Passes : ℕ → Line → Type 0
+abbrev Passes : ℕ → TableLine → Type 0
 Passes j line = int_lt (coef_at j line) (pos 0) ≡ true
 
 less-not_back : (f g : ℕ × ℕ) → is_less f g ≡ true → AtMost g f → ⊥
@@ -40,7 +40,7 @@ unfolding AtMost
 less-not_back f g e h = absurd (omega (arith, ltb-true (f.0 * g.1) (g.0 * f.1) e, h))
 
 module _ (rows : RowList) (vs : List ℕ) (j : ℕ) where
-  nearer-before : (x y : Line) (s t : Bool) → is_less (reach rows vs j x) (reach rows vs j y) ≡ s →
+  nearer-before : (x y : TableLine) (s t : Bool) → is_less (reach rows vs j x) (reach rows vs j y) ≡ s →
       is_less (reach rows vs j y) (reach rows vs j x) ≡ t →
       cond s true (cond t false (nat_lt x.basic y.basic)) ≡ true → ComesBefore rows vs j x y
   nearer-before x y true t e f h = record {
@@ -53,7 +53,7 @@ module _ (rows : RowList) (vs : List ℕ) (j : ℕ) where
     lower = λ back. omega (arith, ltb-true x.basic y.basic h);
   }
 
-  not_nearer-before : (x y : Line) (s t : Bool) → is_less (reach rows vs j x) (reach rows vs j y) ≡ s →
+  not_nearer-before : (x y : TableLine) (s t : Bool) → is_less (reach rows vs j x) (reach rows vs j y) ≡ s →
       is_less (reach rows vs j y) (reach rows vs j x) ≡ t →
       cond s true (cond t false (nat_lt x.basic y.basic)) ≡ false → ComesBefore rows vs j y x
   not_nearer-before x y true t e f h = cc
@@ -66,15 +66,15 @@ module _ (rows : RowList) (vs : List ℕ) (j : ℕ) where
     lower = λ back. ltb-false x.basic y.basic h;
   }
 
-  before-itself : (x : Line) → ComesBefore rows vs j x x
+  before-itself : (x : TableLine) → ComesBefore rows vs j x x
   unfolding AtMost
   before-itself x = record { least = omega arith; lower = λ back. omega arith }
 
-  before-through : (x y z : Line) → Passes j x → Passes j y → Passes j z → ComesBefore rows vs j x y →
+  before-through : (x y z : TableLine) → Passes j x → Passes j y → Passes j z → ComesBefore rows vs j x y →
       ComesBefore rows vs j y z → ComesBefore rows vs j x z
   before-through x y z px py pz a b =
       let r = reach rows vs j in
-      let over = λ (l : Line) (p : Passes j l). abs_of_below (coef_at j l) p in
+      let over = λ (l : TableLine) (p : Passes j l). abs_of_below (coef_at j l) p in
       record {
         least = through (r x) (r y) (r z) (over y py) a.least b.least;
         lower = λ back. omega (
@@ -135,7 +135,7 @@ passing-basic : (rows : RowList) (table : Table) (j v : ℕ) → HasEachOnce row
     Passes j (line_of table v) → IsBasic table v
 passing-basic rows table j v h w p = ⊎_elim (λ b. b)
     (λ n. absurd (false≢true (sym (itself-not_passes v table.nonbasic j)
-    ∙ subst (λ (y : Line). Passes j y) n.is p)))
+    ∙ subst (λ (y : TableLine). Passes j y) n.is p)))
     (basic_or_nonbasic rows table v h w)
 
 -- the line of the variable that comes before each other is the nearest
@@ -147,16 +147,16 @@ first-nearest : (rows : RowList) (table : Table) (j x : ℕ) (o : Option ℕ) �
 first-nearest rows table j x None h w p first e =
     let b = passing-basic rows table j x h w p in
     absurd (false≢true (sym (none_near rows table j e b.place b.within)
-    ∙ subst (λ (y : Line). Passes j y) b.is p))
+    ∙ subst (λ (y : TableLine). Passes j y) b.is p))
 first-nearest rows table j x (Some k) h w p first e =
     let b = passing-basic rows table j x h w p in
     let f = nearest-is_first rows table j k e in
     let v = (line_at table.lines k).basic in
     let own = basic_line rows table k no_line h f.within in
-    let over = subst (λ (y : Line). ComesBefore rows table.nonbasic j (line_of table x) y) own
-    (first v (place-is_variable rows table k h f.within) (subst (λ (y : Line). Passes j y) (sym own) f.passes)) in
-    let back = subst (λ (y : Line). ComesBefore rows table.nonbasic j (line_at table.lines k) y) (sym b.is)
-    (f.before b.place b.within (subst (λ (y : Line). Passes j y) b.is p)) in (
+    let over = subst (λ (y : TableLine). ComesBefore rows table.nonbasic j (line_of table x) y) own
+    (first v (place-is_variable rows table k h f.within) (subst (λ (y : TableLine). Passes j y) (sym own) f.passes)) in
+    let back = subst (λ (y : TableLine). ComesBefore rows table.nonbasic j (line_at table.lines k) y) (sym b.is)
+    (f.before b.place b.within (subst (λ (y : TableLine). Passes j y) b.is p)) in (
       k,
       e,
       at_variable rows table k x h f.within
@@ -171,7 +171,7 @@ none_passing rows table j None h none e = e
 none_passing rows table j (Some k) h none e =
     let f = nearest-is_first rows table j k e in
     absurd (none (line_at table.lines k).basic (place-is_variable rows table k h f.within)
-    (subst (λ (y : Line). Passes j y) (sym (basic_line rows table k no_line h f.within)) f.passes))
+    (subst (λ (y : TableLine). Passes j y) (sym (basic_line rows table k no_line h f.within)) f.passes))
 
 -- ---- within the class of a line
 less_far : (d e : ℕ) (x y s : ℤ) → pos d ≡ s -ℤ y → pos e ≡ s -ℤ x → x ≤ℤ y → d ≤ e
@@ -181,7 +181,7 @@ nearer_far : (d e : ℕ) (x y s : ℤ) → pos d ≡ s -ℤ y → pos e ≡ s -�
 nearer_far d e x y s h i less = omega (arith, ints, lt_out x y less)
 
 -- the one with the higher bound is nearer to it
-module _ (rows : RowList) (vs : List ℕ) (j v : ℕ) (line : Line) (over : pos 0 <ℤ line.times)
+module _ (rows : RowList) (vs : List ℕ) (j v : ℕ) (line : TableLine) (over : pos 0 <ℤ line.times)
     (low : IsNotBelow (bound_of rows) vs line) (also : IsNotBelow (bound_of rows) vs (named v line)) where
   far : pos (distance rows vs line) ≡ sum_at (bound_of rows) vs line.coefs -ℤ line.times *ℤ bound_of rows line.basic
   far = from_bound (line.times *ℤ bound_of rows line.basic) (sum_at (bound_of rows) vs line.coefs) low
@@ -238,30 +238,30 @@ module _ (rows : RowList) (table : Table) (classes : Classes) (full : Table) (t 
         place = one.place;
         within = l;
         is_in = one.is_in;
-        passes = ap (λ (y : Line). int_lt (coef_at j y) (pos 0))
+        passes = ap (λ (y : TableLine). int_lt (coef_at j y) (pos 0))
             (line_of-line rows table classes full t s one.place v l one.is_in) ∙ p;
       })
       (λ (one : IsInOne classes.columns v).
       let l : one.place < length table.nonbasic = omega (arith, s.fit.columns, one.within) in
       absurd (false≢true (sym (itself-not_passes (column_at table one.place) full.nonbasic j)
-      ∙ ap (λ (y : Line). int_lt (coef_at j y) (pos 0))
+      ∙ ap (λ (y : TableLine). int_lt (coef_at j y) (pos 0))
       (line_of-itself rows table classes full t s one.place v l one.is_in) ∙ p)))
       (s.fit.cover v w)
 
   -- what is known of the variable of a line that passes
-  record IsLow (line : Line) : Type 0 where
+  record IsLow (line : TableLine) : Type 0 where
     over : pos 0 <ℤ line.times
     low : IsNotBelow (bound_of rows) table.nonbasic line
 
-  passing-low : NoneBelow rows full → (j v : ℕ) (line : Line) → IsVariable rows v → line ≡ line_of full v →
+  passing-low : NoneBelow rows full → (j v : ℕ) (line : TableLine) → IsVariable rows v → line ≡ line_of full v →
       Passes j line → IsLow line
   passing-low none j v line w is p =
-      let b = passing-basic rows full j v t.each_once w (subst (λ (y : Line). Passes j y) is p) in
+      let b = passing-basic rows full j v t.each_once w (subst (λ (y : TableLine). Passes j y) is p) in
       let own : line_at full.lines b.place ≡ line = sym b.is ∙ sym is in
       let fits = t.lines b.place no_line b.within in
       let low = none b.place no_line b.within in
       record {
-        over = subst (λ (y : Line). pos 0 <ℤ y.times) own fits.over;
+        over = subst (λ (y : TableLine). pos 0 <ℤ y.times) own fits.over;
         low = subst (λ (vs : List ℕ). IsNotBelow (bound_of rows) vs line) (sym s.nonbasic)
             (subst (IsNotBelow (bound_of rows) full.nonbasic) own low);
       }
@@ -311,7 +311,7 @@ nearest-stands rows table classes full i j t s lead none column e =
     (first-nearest rows full j x (nearest rows full j) t.each_once
     (in_class-is_variable rows (class_at classes.lines i) x (line_class rows table classes i s.fit f.within)
     (s.fit.basic i f.within))
-    (subst (λ (y : Line). Passes j y) own f.passes)
+    (subst (λ (y : TableLine). Passes j y) own f.passes)
     (λ v w p.
     let at = in_line rows table classes full t s j v w p in
     let lead-line = line_at table.lines at.place in
@@ -319,8 +319,8 @@ nearest-stands rows table classes full i j t s lead none column e =
     (f.before at.place at.within at.passes)
     (lead-before rows table classes full t s lead none j at.place v at.within at.is_in at.passes) in
     subst (λ (vs : List ℕ). ComesBefore rows vs j (line_of full x) (line_of full v)) s.nonbasic
-    (subst (λ (y : Line). ComesBefore rows table.nonbasic j y (line_of full v)) own
-    (subst (λ (y : Line). ComesBefore rows table.nonbasic j line y)
+    (subst (λ (y : TableLine). ComesBefore rows table.nonbasic j y (line_of full v)) own
+    (subst (λ (y : TableLine). ComesBefore rows table.nonbasic j line y)
     (line_of-line rows table classes full t s at.place v at.within at.is_in) chain)))
     refl)
 

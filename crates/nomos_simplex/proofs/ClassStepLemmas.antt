@@ -10,11 +10,11 @@ use Rattle.nomos_forms.specs.declared.row_list.RowList.{RowList}
 use Rattle.nomos_simplex.specs.Exchange.{coef_at, eliminated, put_into, exchanged, is_large_table}
 use Rattle.nomos_simplex.specs.Divisors.{in_lowest_terms}
 use Rattle.nomos_simplex.specs.GoalLine.{itself, line_of}
-use Rattle.nomos_simplex.specs.Lowest.{entering}
+use Rattle.nomos_simplex.specs.LowestVariable.{entering}
 use Rattle.nomos_simplex.specs.Nearest.{line_at}
 use Rattle.nomos_simplex.specs.Sizes.{IsLowest, IsTable}
 use Rattle.nomos_simplex.specs.declared.classes.Classes.{Classes}
-use Rattle.nomos_simplex.specs.declared.table.Line.{Line}
+use Rattle.nomos_simplex.specs.declared.table.TableLine.{TableLine}
 use Rattle.nomos_simplex.specs.declared.table.Table.{Table}
 use Rattle.nomos_simplex.specs.mirror.Classes.{IsIn, class_at, column_at, Fit, SameNumbers, StandsFor, named, stepped}
 use Rattle.nomos_simplex.proofs.ClassLemmas.{next-in, alike, same_by, unit_of, unit_here, line_of-passes, column-nonbasic_in_full}
@@ -66,7 +66,7 @@ put_one g x (a ∷ as') (c ∷ cs) (suc j) w none =
     (λ m h n. none (suc m) (omega (arith, h)) (λ e. n (omega (arith, e)))) in
     λ q. less_nothing g a c (none 0 (omega arith) (λ e. absurd (omega (arith, e)))) q ∷ rest q
 
-put_itself : (vs : List ℕ) (u j : ℕ) (line : Line) → j < length vs → get_or vs j 0 ≡ u → nonbasic_times u vs ≤ 1 →
+put_itself : (vs : List ℕ) (u j : ℕ) (line : TableLine) → j < length vs → get_or vs j 0 ≡ u → nonbasic_times u vs ≤ 1 →
     length line.coefs ≡ length vs → put_into j (itself vs u) line ≡ line
 put_itself vs u j line h e once w =
     let own = itself vs u in
@@ -86,17 +86,17 @@ put_itself vs u j line h e once w =
     }
 
 -- a line in lowest terms is as it is in these
-already_lowest : (line : Line) → pos 0 <ℤ line.times → IsLowest line → in_lowest_terms line ≡ line
+already_lowest : (line : TableLine) → pos 0 <ℤ line.times → IsLowest line → in_lowest_terms line ≡ line
 already_lowest line over low = lowest_is line 1 over (sym low) ∙ divided_by_one line
 
-entered_itself : (vs : List ℕ) (u j : ℕ) (line : Line) → j < length vs → get_or vs j 0 ≡ u →
+entered_itself : (vs : List ℕ) (u j : ℕ) (line : TableLine) → j < length vs → get_or vs j 0 ≡ u →
     nonbasic_times u vs ≤ 1 → length line.coefs ≡ length vs → pos 0 <ℤ line.times → IsLowest line →
     entered j (itself vs u) line ≡ line
 entered_itself vs u j line h e once w over low =
     ap in_lowest_terms (put_itself vs u j line h e once w) ∙ already_lowest line over low
 
 -- ---- the one column with a coefficient over 0 enters
-only_enters : (full : Table) (left : Line) (j : ℕ) → j < length full.nonbasic → coef_at j left ≡ pos 1 →
+only_enters : (full : Table) (left : TableLine) (j : ℕ) → j < length full.nonbasic → coef_at j left ≡ pos 1 →
     ((m : ℕ) → m < length full.nonbasic → ¬ (m ≡ j) → coef_at m left ≡ pos 0) → entering full left ≡ Some j
 only_enters full left j h one none = of_place (entering full left) refl
   where
@@ -118,7 +118,7 @@ only_enters full left j h one none = of_place (entering full left) refl
     of_place None e =
         absurd (false≢true (sym (none_passes passes number (length full.nonbasic) e j h) ∙ ap (int_lt (pos 0)) one))
 
-module _ (rows : RowList) (k j : ℕ) (left : Line) (table : Table) (classes : Classes) (full : Table)
+module _ (rows : RowList) (k j : ℕ) (left : TableLine) (table : Table) (classes : Classes) (full : Table)
     (of_rows : IsTableOfRows rows full) (stands : StandsFor rows table classes full)
     (inside : j < length table.nonbasic) (followed : column_at table j < (class_at classes.columns j).last)
     (place : slice_get full.lines k ≡ Some left)
@@ -138,7 +138,7 @@ module _ (rows : RowList) (k j : ℕ) (left : Line) (table : Table) (classes : C
 
   left_numbers : SameNumbers left (itself full.nonbasic (column_at table j))
   left_numbers = let e = next ∙ ap (named (column_at table j + 1)) own in
-      record { times = ap (λ (line : Line). line.times) e; coefs = ap (λ (line : Line). line.coefs) e }
+      record { times = ap (λ (line : TableLine). line.times) e; coefs = ap (λ (line : TableLine). line.coefs) e }
 
   left_coef : (m : ℕ) → coef_at m left ≡ coef_at m (itself full.nonbasic (column_at table j))
   left_coef m = ap (λ cs. get_or cs m (pos 0)) left_numbers.coefs
@@ -166,7 +166,7 @@ module _ (rows : RowList) (k j : ℕ) (left : Line) (table : Table) (classes : C
   kept v =
       let vs = full.nonbasic in
       let u = column_at table j in
-      let stays : (line : Line) → length line.coefs ≡ length vs → pos 0 <ℤ line.times → IsLowest line →
+      let stays : (line : TableLine) → length line.coefs ≡ length vs → pos 0 <ℤ line.times → IsLowest line →
       entered j left line ≡ line =
       λ line w over low. entered_by j left (itself vs u) line left_numbers
       ∙ entered_itself vs u j line column here once w over low in
@@ -179,7 +179,7 @@ module _ (rows : RowList) (k j : ℕ) (left : Line) (table : Table) (classes : C
 
   -- ---- the classes are as before
   next_variable : left.basic ≡ column_at table j + 1
-  next_variable = ap (λ (line : Line). line.basic) next
+  next_variable = ap (λ (line : TableLine). line.basic) next
 
   -- in column m stands a variable of its class
   in_class : (m : ℕ) → m < length table.nonbasic →

@@ -18,7 +18,7 @@ use Rattle.nomos_simplex.specs.Sizes.{IsNumber, IsVariable, IsLine, IsLowest, Is
 use Rattle.nomos_simplex.specs.Tables.{bound_of, sum_at}
 use Rattle.nomos_simplex.specs.declared.classes.Class.{Class}
 use Rattle.nomos_simplex.specs.declared.classes.Classes.{Classes}
-use Rattle.nomos_simplex.specs.declared.table.Line.{Line}
+use Rattle.nomos_simplex.specs.declared.table.TableLine.{TableLine}
 use Rattle.nomos_simplex.specs.declared.table.Table.{Table}
 use Rattle.nomos_simplex.specs.mirror.Classes.{IsIn, IsClass, class_at, IsInOne, column_at, Fit, SameNumbers, StandsFor}
 use Rattle.nomos_simplex.proofs.AmountLemmas.{found_passes, star_bound}
@@ -39,7 +39,7 @@ alone rows class v w c i k few = ⊎_elim
     (cases_lt class.first class.last)
 
 -- ---- lines with the same numbers
-same_is_line : (n : ℕ) (a b : Line) → SameNumbers a b → IsLine n b → IsLine n a
+same_is_line : (n : ℕ) (a b : TableLine) → SameNumbers a b → IsLine n b → IsLine n a
 same_is_line n a b s h = record {
   width = ap length s.coefs ∙ h.width;
   times = subst IsNumber (sym s.times) h.times;
@@ -47,10 +47,10 @@ same_is_line n a b s h = record {
   coefs = subst (All IsNumber) (sym s.coefs) h.coefs;
 }
 
-same_lowest : (a b : Line) → SameNumbers a b → IsLowest b → IsLowest a
+same_lowest : (a b : TableLine) → SameNumbers a b → IsLowest b → IsLowest a
 same_lowest a b s h = (λ p. common (unsigned_abs (s.times p)) (s.coefs p)) ∙ h
 
-same_large : (a b : Line) → SameNumbers a b → is_large_line a ≡ is_large_line b
+same_large : (a b : TableLine) → SameNumbers a b → is_large_line a ≡ is_large_line b
 same_large a b s = λ p. is_large (s.times p) || list_any is_large (s.coefs p)
 
 -- ---- what stands at a place of the table
@@ -95,11 +95,12 @@ star_in_line rows table classes star f high i =
     counted (λ line. line.basic == star) table.lines k no_line l
     (eq-eqb (line_at table.lines k).basic star (sym same))
 
-star_of : (rows : RowList) (table : Table) (classes : Classes) (full : Table) (star : ℕ) (o : Option Line) →
+star_of : (rows : RowList) (table : Table) (classes : Classes) (full : Table) (star : ℕ) (o : Option TableLine) →
     HasEachOnce rows full → StandsFor rows table classes full → 1 ≤ star → star ≤ rows.stars →
     find (λ line. line.basic == star) table.lines ≡ o → line_or_itself table.nonbasic star o ≡ line_of full star
 star_of rows table classes full star (Some line) h s low high e =
-    let found = found_passes (λ (line : Line). SameNumbers line (line_of full line.basic)) (λ line. line.basic == star)
+    let found = found_passes (λ (line : TableLine). SameNumbers line (line_of full line.basic))
+    (λ line. line.basic == star)
     table.lines line (line_numbers rows table classes full s) e in
     let is = eqb-true line.basic star found.1 in
     same_line line (line_of full line.basic) found.0 (sym (line_of-basic full line.basic)) ∙ ap (line_of full) is
@@ -125,7 +126,7 @@ fraction_by_line : (rows : RowList) (table : Table) (star : ℕ) → star ≤ ro
     fraction_of rows table star ≡ fraction_in rows table.nonbasic (Some (line_of table star))
 fraction_by_line rows table star high = of_found (find (λ line. line.basic == star) table.lines)
   where
-    of_found : (o : Option Line) → fraction_in rows table.nonbasic o ≡
+    of_found : (o : Option TableLine) → fraction_in rows table.nonbasic o ≡
         fraction_in rows table.nonbasic (Some (line_or_itself table.nonbasic star o))
     of_found (Some line) = refl
     of_found None =
@@ -150,12 +151,12 @@ fractions-stand rows table classes full t s =
 
 -- ---- the line of a goal
 goal_from-stands : (rows : RowList) (table : Table) (classes : Classes) (full : Table) (star : ℕ) (cs : List ℤ)
-    (line : Line) → IsTableOfRows rows full → StandsFor rows table classes full → 1 ≤ star →
+    (line : TableLine) → IsTableOfRows rows full → StandsFor rows table classes full → 1 ≤ star →
     star + length cs ≤ rows.stars + 1 → goal_from table star cs line ≡ goal_from full star cs line
 goal_from-stands rows table classes full star [] line t s low high = refl
 goal_from-stands rows table classes full star (c ∷ cs) line t s low high =
     let same = line_of-stands rows table classes full star t s low (omega arith) in
-    let rest : (made : Line) → goal_from table (star + 1) cs made ≡ goal_from full (star + 1) cs made =
+    let rest : (made : TableLine) → goal_from table (star + 1) cs made ≡ goal_from full (star + 1) cs made =
     λ made. goal_from-stands rows table classes full (star + 1) cs made t s (omega arith) (omega arith) in
     λ p. if_small (in_lowest_terms (with_added c (same p) line)) (λ made. rest made p)
 

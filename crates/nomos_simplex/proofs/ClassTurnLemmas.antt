@@ -4,7 +4,7 @@ use Rattle.std.specs.Prelude.{slice_get}
 use Rattle.std.proofs.lemmas.Option.{slice_get_within}
 use Rattle.nomos_forms.specs.declared.row_list.RowList.{RowList}
 use Rattle.nomos_simplex.specs.Exits.{verdict_of}
-use Rattle.nomos_simplex.specs.Lowest.{lowest_place, leaving, entering}
+use Rattle.nomos_simplex.specs.LowestVariable.{lowest_place, leaving, entering}
 use Rattle.nomos_simplex.specs.PivotRun.{turn, turn_from, turn_on, turn_at}
 use Rattle.nomos_simplex.specs.mirror.Classes.{StandsFor, Lead, IsChosen}
 use Rattle.nomos_simplex.specs.mirror.Steps.{IsNotFound}
@@ -14,24 +14,24 @@ use Rattle.nomos_simplex.specs.declared.classes.Classes.{Classes}
 use Rattle.nomos_simplex.specs.declared.solved.Solved.{Solved}
 use Rattle.nomos_simplex.specs.declared.solved.Solved.TheVariants as solved
 use Rattle.nomos_simplex.specs.declared.solved.Stop.TheVariants as stop
-use Rattle.nomos_simplex.specs.declared.table.Line.{Line}
+use Rattle.nomos_simplex.specs.declared.table.TableLine.{TableLine}
 use Rattle.nomos_simplex.specs.declared.table.Table.{Table}
-use Rattle.nomos_simplex.specs.declared.turn.Turn.TheVariants.{Ends}
+use Rattle.nomos_simplex.specs.declared.turn.PivotTurn.TheVariants.{Ends}
 use Rattle.nomos_simplex.proofs.ClassChoiceLemmas.{line_leaves, column_leaves}
 use Rattle.nomos_simplex.proofs.SolveLemmas.{not_found}
 use Rattle.nomos_simplex.proofs.TableLaws.{IsTableOfRows}
 
 -- ---- what the nonbasic variables alone say
-pub entering-same : (a b : Table) (line : Line) → a.nonbasic ≡ b.nonbasic → entering a line ≡ entering b line
+pub entering-same : (a b : Table) (line : TableLine) → a.nonbasic ≡ b.nonbasic → entering a line ≡ entering b line
 entering-same a b line e = λ p.
     lowest_place (λ j. int_lt (pos 0) (get_or line.coefs j (pos 0))) (λ j. get_or (e p) j 0) (length (e p))
 
-pub verdict-same : (rows : RowList) (a b : Table) (line : Line) → a.nonbasic ≡ b.nonbasic →
+pub verdict-same : (rows : RowList) (a b : Table) (line : TableLine) → a.nonbasic ≡ b.nonbasic →
     verdict_of rows a line ≡ verdict_of rows b line
 verdict-same rows a b line e = λ p. verdict_of rows (record { nonbasic = e p; lines = a.lines }) line
 
 -- ---- the ends of a turn at which a variable leaves
-pub turn-refuted : (budget pivots k : ℕ) (rows : RowList) (full : Table) (left : Line) →
+pub turn-refuted : (budget pivots k : ℕ) (rows : RowList) (full : Table) (left : TableLine) →
     leaving rows full ≡ Some k → slice_get full.lines k ≡ Some left → entering full left ≡ None →
     turn budget pivots rows full ≡ Ends (solved.Refuted (verdict_of rows full left))
 turn-refuted budget pivots k rows full left leaves at enters =
@@ -39,7 +39,7 @@ turn-refuted budget pivots k rows full left leaves at enters =
     ∙ ap (turn_on budget pivots rows full k) at
     ∙ ap (turn_at budget pivots rows full k left) enters
 
-pub turn-spent : (pivots k j : ℕ) (rows : RowList) (full : Table) (left : Line) →
+pub turn-spent : (pivots k j : ℕ) (rows : RowList) (full : Table) (left : TableLine) →
     leaving rows full ≡ Some k → slice_get full.lines k ≡ Some left → entering full left ≡ Some j →
     turn zero pivots rows full ≡ Ends (solved.Unsolved stop.Pivots)
 turn-spent pivots k j rows full left leaves at enters =

@@ -8,7 +8,7 @@ use Rattle.std.proofs.lemmas.Int.{ints, unsigned_abs-mul}
 use Rattle.std.proofs.lemmas.Nat.Gcd.{IsGcd-from_zero, IsGcd-from_mod, same_from_IsGcd, dvd_refl, dvd_trans, dvd_antisymm, le_of_dvd}
 use Rattle.std.proofs.Math.Nat.{mod-lt, one-dvd, dvd-mul_right, mul-dvd-mul_left, dvd_of_mul-dvd-mul_left, mul-div_cancel', pos_of_dvd_of_pos}
 use Rattle.nomos_simplex.specs.Divisors.{euclid, gcd, common, signed_like, divided_by, in_lowest_terms}
-use Rattle.nomos_simplex.specs.declared.table.Line.{Line}
+use Rattle.nomos_simplex.specs.declared.table.TableLine.{TableLine}
 
 euclid_is : (steps a b : ℕ) → b ≤ steps → IsGcd a b (euclid steps a b)
 unfolding euclid
@@ -88,16 +88,16 @@ div_one_all : (cs : List ℤ) → map (λ c. int_div c (pos 1)) cs ≡ cs
 div_one_all [] = refl
 div_one_all (c ∷ cs) = λ p. div_one c p ∷ div_one_all cs p
 
-pub divided_by_one : (line : Line) → divided_by (pos 1) line ≡ line
+pub divided_by_one : (line : TableLine) → divided_by (pos 1) line ≡ line
 divided_by_one line = λ p. record line { times = div_one line.times p; coefs = div_one_all line.coefs p }
 
-pub lowest_is : (line : Line) (g : ℕ) → pos 0 <ℤ line.times → g ≡ common (unsigned_abs line.times) line.coefs →
+pub lowest_is : (line : TableLine) (g : ℕ) → pos 0 <ℤ line.times → g ≡ common (unsigned_abs line.times) line.coefs →
     in_lowest_terms line ≡ divided_by (pos g) line
 lowest_is line g h e = ap (λ d. divided_by d line) (signed_positive line.times (common (unsigned_abs line.times)
     line.coefs) h ∙ ap pos (sym e))
 
 -- the divisor is over 0, and no larger than the number in front
-pub divisor_size : (line : Line) (g : ℕ) → pos 0 <ℤ line.times → g ≡ common (unsigned_abs line.times) line.coefs →
+pub divisor_size : (line : TableLine) (g : ℕ) → pos 0 <ℤ line.times → g ≡ common (unsigned_abs line.times) line.coefs →
     (0 < g) × (g ≤ unsigned_abs line.times)
 divisor_size line g h e =
     let over : 0 < unsigned_abs line.times = over_zero line.times h in
@@ -127,7 +127,8 @@ div_times_all n [] h = refl
 div_times_all n (c ∷ cs) h = λ p. div_times n c h p ∷ div_times_all n cs h p
 
 -- a line without common divisor, multiplied by a number over 0, is itself in lowest terms
-pub lowest_times : (n : ℕ) (line : Line) → 0 < n → pos 0 <ℤ line.times → common (unsigned_abs line.times) line.coefs ≡
+pub lowest_times : (n : ℕ) (line : TableLine) → 0 < n → pos 0 <ℤ line.times
+    → common (unsigned_abs line.times) line.coefs ≡
     1 → in_lowest_terms (record line { times = pos n *ℤ line.times; coefs = map (λ c. pos n *ℤ c) line.coefs }) ≡ line
 lowest_times n line h over lowest =
     let many = record line { times = pos n *ℤ line.times; coefs = map (λ c. pos n *ℤ c) line.coefs } in

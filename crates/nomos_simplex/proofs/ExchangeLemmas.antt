@@ -13,7 +13,7 @@ use Rattle.nomos_simplex.specs.Divisors.{common, signed_like, divided_by, in_low
 use Rattle.nomos_simplex.specs.Exchange.{coef_at, solved_for, eliminated, put_into}
 use Rattle.nomos_simplex.specs.Sizes.{IsLowest}
 use Rattle.nomos_simplex.specs.Tables.{sum_at, HoldsAt}
-use Rattle.nomos_simplex.specs.declared.table.Line.{Line}
+use Rattle.nomos_simplex.specs.declared.table.TableLine.{TableLine}
 use Rattle.nomos_simplex.proofs.CountLemmas.{All-from_map}
 use Rattle.nomos_simplex.proofs.DivisorLemmas.{common_divides_first}
 use Rattle.nomos_simplex.proofs.GcdLemmas.{common_divides_each, divides_common, exact_whole, abs_signed, quotient_over_zero}
@@ -40,12 +40,12 @@ abs_not_zero : (a : ℤ) → 0 < unsigned_abs a → ¬ (a ≡ pos 0)
 abs_not_zero a h e = let z = ap unsigned_abs e in omega arith
 
 -- ---- lowest terms
-pub record Divides (d : ℤ) (line : Line) : Type 0 where
+pub record Divides (d : ℤ) (line : TableLine) : Type 0 where
   pub other : ¬ (d ≡ pos 0)
   pub times : int_div line.times d *ℤ d ≡ line.times
   pub coefs : All (λ c. int_div c d *ℤ d ≡ c) line.coefs
 
-pub lowest_divides : (line : Line) → ¬ (line.times ≡ pos 0) →
+pub lowest_divides : (line : TableLine) → ¬ (line.times ≡ pos 0) →
     Divides (signed_like line.times (common (unsigned_abs line.times) line.coefs)) line
 lowest_divides line n =
     let g = common (unsigned_abs line.times) line.coefs in
@@ -62,10 +62,10 @@ lowest_divides line n =
     }
 
 -- a line is true of a value for its own variable, beside what the others have
-abbrev pub HoldsFor : ℤ → (ℕ → ℤ) → List ℕ → Line → Type 0
+abbrev pub HoldsFor : ℤ → (ℕ → ℤ) → List ℕ → TableLine → Type 0
 HoldsFor w y vs line = line.times *ℤ w ≡ sum_at y vs line.coefs
 
-divided_holds : (w : ℤ) (y : ℕ → ℤ) (vs : List ℕ) (d : ℤ) (line : Line) → Divides d line →
+divided_holds : (w : ℤ) (y : ℕ → ℤ) (vs : List ℕ) (d : ℤ) (line : TableLine) → Divides d line →
     HoldsFor w y vs (divided_by d line) ↔ HoldsFor w y vs line
 divided_holds w y vs d line h =
     let left : d *ℤ (int_div line.times d *ℤ w) ≡ line.times *ℤ w =
@@ -77,17 +77,17 @@ divided_holds w y vs d line h =
           h.other (left ∙ e ∙ sym right)),
     )
 
-pub lowest_holds_for : (w : ℤ) (y : ℕ → ℤ) (vs : List ℕ) (line : Line) → ¬ (line.times ≡ pos 0) →
+pub lowest_holds_for : (w : ℤ) (y : ℕ → ℤ) (vs : List ℕ) (line : TableLine) → ¬ (line.times ≡ pos 0) →
     HoldsFor w y vs (in_lowest_terms line) ↔ HoldsFor w y vs line
 lowest_holds_for w y vs line n =
     divided_holds w y vs (signed_like line.times (common (unsigned_abs line.times) line.coefs)) line
     (lowest_divides line n)
 
-pub lowest_holds : (y : ℕ → ℤ) (vs : List ℕ) (line : Line) → ¬ (line.times ≡ pos 0) →
+pub lowest_holds : (y : ℕ → ℤ) (vs : List ℕ) (line : TableLine) → ¬ (line.times ≡ pos 0) →
     HoldsAt y vs (in_lowest_terms line) ↔ HoldsAt y vs line
 lowest_holds y vs line n = lowest_holds_for (y line.basic) y vs line n
 
-pub lowest_over_zero : (line : Line) → ¬ (line.times ≡ pos 0) → pos 0 <ℤ (in_lowest_terms line).times
+pub lowest_over_zero : (line : TableLine) → ¬ (line.times ≡ pos 0) → pos 0 <ℤ (in_lowest_terms line).times
 lowest_over_zero line n =
     let g = common (unsigned_abs line.times) line.coefs in
     let h = lowest_divides line n in
@@ -108,7 +108,7 @@ divisor_left k g h d = eq-one_of_dvd-one (dvd_of_mul-dvd-mul_right k {n = 1} h (
 abs_times : (q d z : ℤ) (g : ℕ) → unsigned_abs d ≡ g → q *ℤ d ≡ z → unsigned_abs q * g ≡ unsigned_abs z
 abs_times q d z g e h = ap (λ n. unsigned_abs q * n) (sym e) ∙ sym (unsigned_abs-mul q d) ∙ ap unsigned_abs h
 
-pub lowest-is_lowest : (line : Line) → ¬ (line.times ≡ pos 0) → IsLowest (in_lowest_terms line)
+pub lowest-is_lowest : (line : TableLine) → ¬ (line.times ≡ pos 0) → IsLowest (in_lowest_terms line)
 lowest-is_lowest line n =
     let g = common (unsigned_abs line.times) line.coefs in
     let d = signed_like line.times g in
@@ -130,7 +130,7 @@ lowest-is_lowest line n =
     get_or line.coefs i e in times_divides k g (unsigned_abs (int_div c d)) (unsigned_abs c)
     (abs_times (int_div c d) d c g size (h.coefs i e l)) (each i e l)))
 
-pub lowest_width : (line : Line) → length (in_lowest_terms line).coefs ≡ length line.coefs
+pub lowest_width : (line : TableLine) → length (in_lowest_terms line).coefs ≡ length line.coefs
 lowest_width line = length-map line.coefs _
 
 -- ---- the line that is left
@@ -143,7 +143,7 @@ solved_in new pe s tb u v h i j = (there, back)
     back : tb ≡ s → pe ≡ new
     back e = omega (arith, ints)
 
-pub solved_holds : (y : ℕ → ℤ) (vs : List ℕ) (j : ℕ) (line : Line) → j < length vs → j < length line.coefs →
+pub solved_holds : (y : ℕ → ℤ) (vs : List ℕ) (j : ℕ) (line : TableLine) → j < length vs → j < length line.coefs →
     HoldsAt y (set vs j line.basic) (solved_for j (get_or vs j 0) line) ↔ HoldsAt y vs line
 solved_holds y vs j line h i =
     let e = get_or vs j 0 in
@@ -163,7 +163,7 @@ nothing_left : (p g z : ℤ) → (p *ℤ g -ℤ g *ℤ p) *ℤ z ≡ pos 0
 nothing_left p g z = ap (λ x. x *ℤ z) (minus_itself (p *ℤ g) (g *ℤ p) (*ℤ_comm p g)) ∙ *ℤ_comm (pos 0) z ∙ *ℤ-zero z
 
 -- what is put in comes to p times what the line does, less g times what the line that is left does more than its own
-pub put_sum_free : (y : ℕ → ℤ) (vs : List ℕ) (j : ℕ) (left line : Line) → j < length vs → j < length left.coefs →
+pub put_sum_free : (y : ℕ → ℤ) (vs : List ℕ) (j : ℕ) (left line : TableLine) → j < length vs → j < length left.coefs →
     length line.coefs ≡ length left.coefs →
     sum_at y (set vs j left.basic) (put_into j left line).coefs ≡ coef_at j left *ℤ sum_at y vs line.coefs -ℤ
     coef_at j line *ℤ (sum_at y vs left.coefs -ℤ left.times *ℤ y left.basic)
@@ -188,7 +188,7 @@ less_nothing a g b h = ap (λ z. a -ℤ g *ℤ z) h ∙ ap (λ z. a -ℤ z) (*�
     less : (a : ℤ) → a -ℤ pos 0 ≡ a
     less a = omega (arith, ints)
 
-pub put_sum : (y : ℕ → ℤ) (vs : List ℕ) (j : ℕ) (left line : Line) → j < length vs → j < length left.coefs →
+pub put_sum : (y : ℕ → ℤ) (vs : List ℕ) (j : ℕ) (left line : TableLine) → j < length vs → j < length left.coefs →
     length line.coefs ≡ length left.coefs → HoldsAt y vs left →
     sum_at y (set vs j left.basic) (put_into j left line).coefs ≡ coef_at j left *ℤ sum_at y vs line.coefs
 put_sum y vs j left line h i w l =
@@ -197,7 +197,7 @@ put_sum y vs j left line h i w l =
     (sum_at y vs left.coefs -ℤ left.times *ℤ y left.basic)
     (minus_itself (sum_at y vs left.coefs) (left.times *ℤ y left.basic) (sym l))
 
-pub put_holds_for : (value : ℤ) (y : ℕ → ℤ) (vs : List ℕ) (j : ℕ) (left line : Line) → j < length vs →
+pub put_holds_for : (value : ℤ) (y : ℕ → ℤ) (vs : List ℕ) (j : ℕ) (left line : TableLine) → j < length vs →
     j < length left.coefs → length line.coefs ≡ length left.coefs → ¬ (coef_at j left ≡ pos 0) → HoldsAt y vs left →
     HoldsFor value y (set vs j left.basic) (put_into j left line) ↔ HoldsFor value y vs line
 put_holds_for value y vs j left line h i w n l =
@@ -208,11 +208,11 @@ put_holds_for value y vs j left line h i w n l =
       (λ e. first ∙ ap (λ z. p *ℤ z) e ∙ sym sum),
     )
 
-pub put_holds : (y : ℕ → ℤ) (vs : List ℕ) (j : ℕ) (left line : Line) → j < length vs → j < length left.coefs →
+pub put_holds : (y : ℕ → ℤ) (vs : List ℕ) (j : ℕ) (left line : TableLine) → j < length vs → j < length left.coefs →
     length line.coefs ≡ length left.coefs → ¬ (coef_at j left ≡ pos 0) → HoldsAt y vs left →
     HoldsAt y (set vs j left.basic) (put_into j left line) ↔ HoldsAt y vs line
 put_holds y vs j left line h i w n l = put_holds_for (y line.basic) y vs j left line h i w n l
 
-pub put_width : (j : ℕ) (left line : Line) → length line.coefs ≡ length left.coefs →
+pub put_width : (j : ℕ) (left line : TableLine) → length line.coefs ≡ length left.coefs →
     length (put_into j left line).coefs ≡ length line.coefs
 put_width j left line w = length-set _ j _ ∙ length-eliminated (coef_at j left) (coef_at j line) line.coefs left.coefs w

@@ -19,13 +19,13 @@ use Rattle.nomos_forms.specs.declared.verdict.Weight.{Weight}
 use Rattle.nomos_forms.proofs.WholeLaws.{times_swap, count_times_le, less_by_times}
 use Rattle.nomos_simplex.specs.Exchange.{is_large_line}
 use Rattle.nomos_simplex.specs.Exits.{fraction_of, fractions, denominator, common_denominator, amounts_over, found_or_large, with_weight, weights_below, weight_of, of_variable, verdict_of}
-use Rattle.nomos_simplex.specs.Lowest.{is_below, leaving, entering}
+use Rattle.nomos_simplex.specs.LowestVariable.{is_below, leaving, entering}
 use Rattle.nomos_simplex.specs.Sizes.{IsVariable}
 use Rattle.nomos_simplex.specs.Tables.{bound_of, sum_at, HoldsAt}
 use Rattle.nomos_simplex.specs.declared.solved.Solved.TheVariants as solved
 use Rattle.nomos_simplex.specs.declared.solved.Solved.{Solved}
 use Rattle.nomos_simplex.specs.declared.solved.Stop.TheVariants as stop
-use Rattle.nomos_simplex.specs.declared.table.Line.{Line}
+use Rattle.nomos_simplex.specs.declared.table.TableLine.{TableLine}
 use Rattle.nomos_simplex.specs.declared.table.Table.{Table}
 use Rattle.nomos_simplex.proofs.AmountLemmas.{NoneBelow, value_of, times_product, product_positive, values_hold, values_high, amount_of, amounts_scaled, fraction_over_zero, common-divided_by_each, common_over_zero, dot_scaled}
 use Rattle.nomos_simplex.proofs.CountLemmas.{All-from_map}
@@ -150,7 +150,8 @@ pub found_exit : (pivots : ℕ) (rows : RowList) (table : Table) → IsTableOfRo
 found_exit pivots rows table t e = found_low pivots rows table t (none_below rows table e)
 
 -- ---- a verdict
-no_positive : (table : Table) (line : Line) → length line.coefs ≡ length table.nonbasic → entering table line ≡ None →
+no_positive : (table : Table) (line : TableLine) → length line.coefs ≡ length table.nonbasic
+    → entering table line ≡ None →
     All (λ c. c ≤ℤ pos 0) line.coefs
 no_positive table line w e k d l =
     let no = none_passes (λ j. int_lt (pos 0) (get_or line.coefs j (pos 0))) (λ j. get_or table.nonbasic j 0)
@@ -166,25 +167,25 @@ minus_over : (a b : ℤ) → a <ℤ b → pos 0 <ℤ (b -ℤ a)
 minus_over a b h = below_in (pos 0) (b -ℤ a) (omega (arith, ints, lt_out a b h))
 
 -- what is known of the line that ends the run
-pub record EndsAt (rows : RowList) (table : Table) (i : ℕ) (line : Line) : Type 0 where
+pub record EndsAt (rows : RowList) (table : Table) (i : ℕ) (line : TableLine) : Type 0 where
   pub place : slice_get table.lines i ≡ Some line
   pub below : is_below rows table.nonbasic line ≡ true
   pub none : entering table line ≡ None
 
 -- its width, its sign, and that none of its coefficients is over 0
-record IsLastLine (table : Table) (line : Line) : Type 0 where
+record IsLastLine (table : Table) (line : TableLine) : Type 0 where
   width : length line.coefs ≡ length table.nonbasic
   over : pos 0 <ℤ line.times
   none : All (λ c. c ≤ℤ pos 0) line.coefs
 
-last_line : (rows : RowList) (table : Table) (i : ℕ) (line : Line) → IsTableOfRows rows table →
+last_line : (rows : RowList) (table : Table) (i : ℕ) (line : TableLine) → IsTableOfRows rows table →
     EndsAt rows table i line → IsLastLine table line
 last_line rows table i line t h =
     let own = at_place (IsLineIn table) table.lines i line h.place t.lines in
     record { width = own.width; over = own.over; none = no_positive table line own.width h.none }
 
 -- what holds of the weight of the basic variable, and of those of the nonbasic ones, holds of each weight
-weights_are : (P : Weight → Type 0) (rows : RowList) (table : Table) (line : Line) → IsLastLine table line →
+weights_are : (P : Weight → Type 0) (rows : RowList) (table : Table) (line : TableLine) → IsLastLine table line →
     P (weight_of rows (line.basic, unsigned_abs line.times)) →
     ((k : ℕ) → k < length table.nonbasic → int_lt (get_or line.coefs k (pos 0)) (pos 0) ≡ true →
     P (weight_of rows (get_or table.nonbasic k 0, unsigned_abs (get_or line.coefs k (pos 0))))) →
@@ -193,14 +194,14 @@ weights_are P rows table line own basic each =
     All-with_weight P rows (line.basic, unsigned_abs line.times) (weights_below table.nonbasic line.coefs) basic
     (All-weights_below P rows table.nonbasic line.coefs own.width each)
 
-gap_over_zero : (rows : RowList) (table : Table) (line : Line) → is_below rows table.nonbasic line ≡ true →
+gap_over_zero : (rows : RowList) (table : Table) (line : TableLine) → is_below rows table.nonbasic line ≡ true →
     pos 0 <ℤ (line.times *ℤ bound_of rows line.basic -ℤ sum_at (bound_of rows) table.nonbasic line.coefs)
 gap_over_zero rows table line h =
     let low = sum_at (bound_of rows) table.nonbasic line.coefs in
     let high = line.times *ℤ bound_of rows line.basic in
     minus_over low high (below_in low high (lt-true low high h))
 
-weights_of : (rows : RowList) (table : Table) (i : ℕ) (line : Line) → IsTableOfRows rows table →
+weights_of : (rows : RowList) (table : Table) (i : ℕ) (line : TableLine) → IsTableOfRows rows table →
     EndsAt rows table i line → All (λ w. IsOneOf rows.stars rows.rows w.of) (verdict_of rows table line).weights
 weights_of rows table i line t h =
     let basic =
@@ -212,14 +213,14 @@ weights_of rows table i line t h =
     nonbasic-is_variable rows table t.each_once k 0 l in variable-is_one_of rows (get_or table.nonbasic k 0) v.0
     v.1)
 
-weights_positive : (rows : RowList) (table : Table) (line : Line) → IsLastLine table line →
+weights_positive : (rows : RowList) (table : Table) (line : TableLine) → IsLastLine table line →
     All (λ w. 0 < w.times) (verdict_of rows table line).weights
 weights_positive rows table line own =
     weights_are (λ w. 0 < w.times) rows table line own (abs_positive line.times own.over)
     (λ k l e. abs_of_below (get_or line.coefs k (pos 0)) e)
 
 -- the line holds where each variable has what it has of a star: so nothing of the star is left
-weights_cancel : (rows : RowList) (table : Table) (i : ℕ) (line : Line) → IsTableOfRows rows table →
+weights_cancel : (rows : RowList) (table : Table) (i : ℕ) (line : TableLine) → IsTableOfRows rows table →
     EndsAt rows table i line → LeavesNoStar rows.stars (verdict_of rows table line).weights
 weights_cancel rows table i line t h star from to =
     let own = last_line rows table i line t h in
@@ -229,7 +230,7 @@ weights_cancel rows table i line t h star from to =
     (at_place (HoldsAt y table.nonbasic) table.lines i line h.place
     (t.true_of y (unit_holds rows star from to (λ k e l. (rows.each k e l).width))))
 
-weights_give : (rows : RowList) (table : Table) (line : Line) → IsLastLine table line →
+weights_give : (rows : RowList) (table : Table) (line : TableLine) → IsLastLine table line →
     is_below rows table.nonbasic line ≡ true →
     weighted least_in (verdict_of rows table line).weights ≡ pos (verdict_of rows table line).gives
 weights_give rows table line own below =
@@ -239,7 +240,7 @@ weights_give rows table line own below =
     table.nonbasic line.coefs)
     ∙ sym (abs_over (line.times *ℤ bound_of rows line.basic -ℤ low) (gap_over_zero rows table line below))
 
-pub verdict-refutes : (rows : RowList) (table : Table) (i : ℕ) (line : Line) → IsTableOfRows rows table →
+pub verdict-refutes : (rows : RowList) (table : Table) (i : ℕ) (line : TableLine) → IsTableOfRows rows table →
     EndsAt rows table i line → Refutes rows.stars rows.rows (verdict_of rows table line)
 verdict-refutes rows table i line t h =
     let own = last_line rows table i line t h in
@@ -252,7 +253,7 @@ verdict-refutes rows table i line t h =
       over_zero = abs_positive gap (gap_over_zero rows table line h.below);
     }
 
-pub verdict-is_verdict : (rows : RowList) (table : Table) (i : ℕ) (line : Line) → IsTableOfRows rows table →
+pub verdict-is_verdict : (rows : RowList) (table : Table) (i : ℕ) (line : TableLine) → IsTableOfRows rows table →
     EndsAt rows table i line → IsVerdict (verdict_of rows table line)
 verdict-is_verdict rows table i line t h =
     let own = last_line rows table i line t h in
@@ -275,6 +276,6 @@ verdict-is_verdict rows table i line t h =
           (λ k l e. small.coefs k (pos 0) (omega (arith, own.width)));
     }
 
-pub verdict_exit : (rows : RowList) (table : Table) (i : ℕ) (line : Line) → IsTableOfRows rows table →
+pub verdict_exit : (rows : RowList) (table : Table) (i : ℕ) (line : TableLine) → IsTableOfRows rows table →
     EndsAt rows table i line → IsRightFor rows (solved.Refuted (verdict_of rows table line))
 verdict_exit rows table i line t h = (verdict-refutes rows table i line t h, verdict-is_verdict rows table i line t h)

@@ -17,7 +17,7 @@ use Rattle.nomos_simplex.specs.Divisors.{gcd, common, in_lowest_terms}
 use Rattle.nomos_simplex.specs.Exchange.{is_large, is_large_line}
 use Rattle.nomos_simplex.specs.GoalLine.{times_to_common, combined, with_added}
 use Rattle.nomos_simplex.specs.Sizes.{IsLowest}
-use Rattle.nomos_simplex.specs.declared.table.Line.{Line}
+use Rattle.nomos_simplex.specs.declared.table.TableLine.{TableLine}
 use Rattle.nomos_simplex.proofs.DivisorLemmas.{gcd_is, gcd_unique, gcd_times, common_divides_first, exact, lowest_is}
 use Rattle.nomos_simplex.proofs.GcdLemmas.{common_divides_each, divides_common, exact_whole}
 use Rattle.nomos_simplex.proofs.SignLemmas.{abs_over, abs_positive}
@@ -116,7 +116,7 @@ parts a b p q =
 
 -- ---- a step
 -- no divisor of the sum has a divisor with the first number's part
-divides_one : (n : ℤ) (star line : Line) (h : ℕ) → length line.coefs ≡ length star.coefs →
+divides_one : (n : ℤ) (star line : TableLine) (h : ℕ) → length line.coefs ≡ length star.coefs →
     HasParts (unsigned_abs line.times) (unsigned_abs star.times) → 0 < h → IsLowest line →
     h ∣ unsigned_abs line.times / gcd (unsigned_abs star.times) (unsigned_abs line.times) →
     All (λ c. h ∣ unsigned_abs c) (with_added n star line).coefs → h ∣ 1
@@ -147,7 +147,7 @@ divides_one n star line h w both over lowest part each =
     dvd_one k h = dvd_antisymm h (one-dvd k)
 
 -- the common divisor of the sum divides the number before the star
-pub step_divisor : (n : ℤ) (star line : Line) → length line.coefs ≡ length star.coefs → pos 0 <ℤ line.times →
+pub step_divisor : (n : ℤ) (star line : TableLine) → length line.coefs ≡ length star.coefs → pos 0 <ℤ line.times →
     pos 0 <ℤ star.times → IsLowest line →
     common (unsigned_abs (with_added n star line).times) (with_added n star line).coefs ∣ unsigned_abs star.times
 step_divisor n star line w over star_over lowest =
@@ -168,7 +168,7 @@ step_divisor n star line w over star_over lowest =
     (λ c i. dvd_trans h (gcd_is g second).0 i) made.coefs (common_divides_each (unsigned_abs made.times) made.coefs)) in
     divides_other g second d (dvd_antisymm one (one-dvd h)) times
 
-pub added_over : (n : ℤ) (star line : Line) → pos 0 <ℤ line.times → pos 0 <ℤ star.times →
+pub added_over : (n : ℤ) (star line : TableLine) → pos 0 <ℤ line.times → pos 0 <ℤ star.times →
     pos 0 <ℤ (with_added n star line).times
 added_over n star line over star_over =
     let both =
@@ -197,7 +197,8 @@ still_large q g h i = ⊎_elim
     under : (g : ℕ) → g < 2 ^ 62 → g ≤ 2 ^ 62
     under g h = omega (arith, h)
 
-pub huge-is_large : (n : ℤ) (star line : Line) (i : ℕ) → length line.coefs ≡ length star.coefs → pos 0 <ℤ line.times →
+pub huge-is_large : (n : ℤ) (star line : TableLine) (i : ℕ) → length line.coefs ≡ length star.coefs
+    → pos 0 <ℤ line.times →
     pos 0 <ℤ star.times → unsigned_abs star.times < 2 ^ 62 → IsLowest line → i < length (with_added n star line).coefs →
     2 ^ 125 ≤ unsigned_abs (get_or (with_added n star line).coefs i (pos 0)) →
     is_large_line (in_lowest_terms (with_added n star line)) ≡ true

@@ -17,7 +17,7 @@ use Rattle.nomos_simplex.specs.Exchange.{is_large, is_large_line}
 use Rattle.nomos_simplex.specs.GoalLine.{times_to_common, combined, with_added, itself, line_or_itself, line_of, no_goal, goal_from, goal_line}
 use Rattle.nomos_simplex.specs.Sizes.{IsNumber, IsLine, IsLowest}
 use Rattle.nomos_simplex.specs.Tables.{sum_at, HoldsAt, Holds}
-use Rattle.nomos_simplex.specs.declared.table.Line.{Line}
+use Rattle.nomos_simplex.specs.declared.table.TableLine.{TableLine}
 use Rattle.nomos_simplex.specs.declared.table.Table.{Table}
 use Rattle.nomos_simplex.proofs.AmountLemmas.{found_passes}
 use Rattle.nomos_simplex.proofs.DivisorLemmas.{common_one}
@@ -68,11 +68,11 @@ itself_sum y v (w ∷ vs) =
     (sum_by-cons (λ w. cond (w == v) 1 0) w vs)
 
 -- what is known of the line of a star
-pub record IsStarLine (y : ℕ → ℤ) (table : Table) (star : ℕ) (line : Line) : Type 0 where
+pub record IsStarLine (y : ℕ → ℤ) (table : Table) (star : ℕ) (line : TableLine) : Type 0 where
   pub fits : IsLineIn table line
   pub holds : HoldsFor (y star) y table.nonbasic line
 
-line_of_star : (y : ℕ → ℤ) (rows : RowList) (table : Table) (star : ℕ) (o : Option Line) →
+line_of_star : (y : ℕ → ℤ) (rows : RowList) (table : Table) (star : ℕ) (o : Option TableLine) →
     find (λ line. line.basic == star) table.lines ≡ o → IsTableOfRows rows table → Holds y table → 1 ≤ star →
     star ≤ rows.stars → IsStarLine y table star (line_or_itself table.nonbasic star o)
 line_of_star y rows table star (Some line) e t h low high =
@@ -106,7 +106,8 @@ itself-is_line vs v = record {
   coefs = unit_small v vs;
 }
 
-pub star_line-fits : (table : Table) (star : ℕ) (o : Option Line) → find (λ line. line.basic == star) table.lines ≡ o →
+pub star_line-fits : (table : Table) (star : ℕ) (o : Option TableLine) → find (λ line. line.basic == star) table.lines
+    ≡ o →
     All (IsLineIn table) table.lines → IsLineIn table (line_or_itself table.nonbasic star o)
 star_line-fits table star (Some line) e lines =
     (found_passes (IsLineIn table) (λ line. line.basic == star) table.lines line lines e).0
@@ -117,12 +118,12 @@ star_line-fits table star None e lines = record {
 
 -- ---- a step
 -- a line of a part of the goal
-pub record IsGoalLine (table : Table) (line : Line) : Type 0 where
+pub record IsGoalLine (table : Table) (line : TableLine) : Type 0 where
   pub fits : IsLineIn table line
   pub lowest : IsLowest line
   pub small : is_large_line line ≡ false
 
-added_holds : (w : ℤ) (y : ℕ → ℤ) (table : Table) (c : ℤ) (v : ℕ) (star line : Line) → IsStarLine y table v star →
+added_holds : (w : ℤ) (y : ℕ → ℤ) (table : Table) (c : ℤ) (v : ℕ) (star line : TableLine) → IsStarLine y table v star →
     IsLineIn table line → HoldsFor w y table.nonbasic line →
     HoldsFor (w +ℤ c *ℤ y v) y table.nonbasic (with_added c star line)
 added_holds w y table c v star line s l h =
@@ -139,7 +140,7 @@ added_holds w y table c v star line s l h =
     around : (q d c x : ℤ) → (q *ℤ d) *ℤ (c *ℤ x) ≡ (q *ℤ c) *ℤ (d *ℤ x)
     around q d c x = times_assoc q d (c *ℤ x) ∙ ap (λ z. q *ℤ z) (times_swap d c x) ∙ sym (times_assoc q c (d *ℤ x))
 
-step_holds : (w : ℤ) (y : ℕ → ℤ) (table : Table) (c : ℤ) (v : ℕ) (star line : Line) → IsStarLine y table v star →
+step_holds : (w : ℤ) (y : ℕ → ℤ) (table : Table) (c : ℤ) (v : ℕ) (star line : TableLine) → IsStarLine y table v star →
     IsLineIn table line → HoldsFor w y table.nonbasic line →
     HoldsFor (w +ℤ c *ℤ y v) y table.nonbasic (in_lowest_terms (with_added c star line))
 step_holds w y table c v star line s l h =
@@ -147,7 +148,7 @@ step_holds w y table c v star line s l h =
     (not_zero_over (with_added c star line).times (added_over c star line l.over s.fits.over))).1
     (added_holds w y table c v star line s l h)
 
-pub step_line : (table : Table) (c : ℤ) (star line : Line) → IsLineIn table star → IsLineIn table line →
+pub step_line : (table : Table) (c : ℤ) (star line : TableLine) → IsLineIn table star → IsLineIn table line →
     is_large_line (in_lowest_terms (with_added c star line)) ≡ false →
     IsGoalLine table (in_lowest_terms (with_added c star line))
 step_line table c star line s l small =
@@ -164,13 +165,13 @@ step_line table c star line s l small =
     }
 
 -- ---- the line
-pub if_small_some : (line made : Line) (go_on : Line → Option Line) (t : Bool) → is_large_line line ≡ t →
+pub if_small_some : (line made : TableLine) (go_on : TableLine → Option TableLine) (t : Bool) → is_large_line line ≡ t →
     cond t None (go_on line) ≡ Some made → (is_large_line line ≡ false) × (go_on line ≡ Some made)
 if_small_some line made go_on true e h = cc
 if_small_some line made go_on false e h = (e, h)
 
 -- what is added, star by star
-goal_holds : (y : ℕ → ℤ) (rows : RowList) (table : Table) (star : ℕ) (cs : List ℤ) (w : ℤ) (line made : Line) →
+goal_holds : (y : ℕ → ℤ) (rows : RowList) (table : Table) (star : ℕ) (cs : List ℤ) (w : ℤ) (line made : TableLine) →
     IsTableOfRows rows table → Holds y table → 1 ≤ star → star + length cs ≤ rows.stars + 1 → IsLineIn table line →
     HoldsFor w y table.nonbasic line → goal_from table star cs line ≡ Some made →
     HoldsFor (w +ℤ sum_at y (range_with_len star (length cs)) cs) y table.nonbasic made
@@ -196,7 +197,7 @@ goal_holds y rows table star (c ∷ cs) w line made t h low high l holds e =
     sum_assoc a b c = omega (arith, ints)
 
 -- its numbers; the stars' lines are in the table, whatever the variables have
-goal_numbers : (rows : RowList) (table : Table) (star : ℕ) (cs : List ℤ) (line made : Line) →
+goal_numbers : (rows : RowList) (table : Table) (star : ℕ) (cs : List ℤ) (line made : TableLine) →
     IsTableOfRows rows table → IsGoalLine table line → goal_from table star cs line ≡ Some made →
     IsGoalLine table made
 goal_numbers rows table star [] line made t l e = let same : line ≡ made = cc in subst (IsGoalLine table) same l
@@ -240,7 +241,7 @@ no_goal-is_line table = record {
     or_false false y h i = i
 
 -- the goal's line is true of the goal
-pub goal_line-holds : (y : ℕ → ℤ) (rows : RowList) (table : Table) (goal : Form) (line : Line) →
+pub goal_line-holds : (y : ℕ → ℤ) (rows : RowList) (table : Table) (goal : Form) (line : TableLine) →
     IsTableOfRows rows table → length goal.coefs ≡ rows.stars → Holds y table → goal_line table goal ≡ Some line →
     HoldsFor (sum_at y (range_with_len 1 rows.stars) goal.coefs) y table.nonbasic line
 goal_line-holds y rows table goal line t w h e =
@@ -253,7 +254,7 @@ goal_line-holds y rows table goal line t w h e =
     first : (z : ℤ) → pos 0 +ℤ z ≡ z
     first z = omega (arith, ints)
 
-pub goal_line-numbers : (rows : RowList) (table : Table) (goal : Form) (line : Line) → IsTableOfRows rows table →
+pub goal_line-numbers : (rows : RowList) (table : Table) (goal : Form) (line : TableLine) → IsTableOfRows rows table →
     goal_line table goal ≡ Some line → IsGoalLine table line
 goal_line-numbers rows table goal line t e =
     goal_numbers rows table 1 goal.coefs (no_goal table) line t (no_goal-is_line table) e

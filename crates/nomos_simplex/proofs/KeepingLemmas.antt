@@ -17,13 +17,13 @@ use Rattle.nomos_forms.proofs.WholeLaws.{neg_times, times_assoc}
 use Rattle.nomos_simplex.proofs.CountLemmas.{All-remove}
 use Rattle.nomos_simplex.specs.Divisors.{common, divided_by, in_lowest_terms}
 use Rattle.nomos_simplex.specs.Exchange.{coef_at, put_into, solved_for, lines_exchanged, is_large, is_large_line}
-use Rattle.nomos_simplex.specs.Lowest.{lowest_place, is_below, leaving}
+use Rattle.nomos_simplex.specs.LowestVariable.{lowest_place, is_below, leaving}
 use Rattle.nomos_simplex.specs.Sizes.{IsNumber, HasNumbers, IsLine}
 use Rattle.nomos_simplex.specs.Tables.{bound_of, sum_at}
-use Rattle.nomos_simplex.specs.declared.exchanging.Entry.{Entry}
-use Rattle.nomos_simplex.specs.declared.exchanging.Put.{Put}
-use Rattle.nomos_simplex.specs.declared.keeping.Kept.{Kept}
-use Rattle.nomos_simplex.specs.declared.table.Line.{Line}
+use Rattle.nomos_simplex.specs.declared.exchanging.EnteredLine.{EnteredLine}
+use Rattle.nomos_simplex.specs.declared.exchanging.PutIn.{PutIn}
+use Rattle.nomos_simplex.specs.declared.keeping.KeptTable.{KeptTable}
+use Rattle.nomos_simplex.specs.declared.table.TableLine.{TableLine}
 use Rattle.nomos_simplex.specs.mirror.Opposite.{opposite_of, oriented_of}
 use Rattle.nomos_simplex.specs.mirror.Keeping.{over_of, Shows, IsEntry, IsPut, IsKeptPut, entered, solved_line}
 use Rattle.nomos_simplex.proofs.DivisorLemmas.{common_divides_first, exact, divisor_size, divided_by_one, lowest_is}
@@ -47,7 +47,7 @@ less_by over r s a b e f = by_tests (int_lt over r) (int_lt s a) refl refl
 below_less : (a b : ℤ) → int_lt (a -ℤ b) (pos 0) ≡ int_lt a b
 below_less a b = less_by (a -ℤ b) (pos 0) a b b refl (sym (minus_itself b b refl))
 
-below_all : (rows : RowList) (nonbasic : List ℕ) (lines : List Line) →
+below_all : (rows : RowList) (nonbasic : List ℕ) (lines : List TableLine) →
     map (λ z. int_lt z (pos 0)) (map (over_of rows nonbasic) lines) ≡ map (is_below rows nonbasic) lines
 below_all rows nonbasic [] = refl
 below_all rows nonbasic (line ∷ lines) =
@@ -60,7 +60,7 @@ get_or_tests [] i = refl
 get_or_tests (z ∷ zs) zero = refl
 get_or_tests (z ∷ zs) (suc i) = get_or_tests zs i
 
-pub leaving_shown : (rows : RowList) (kept : Kept) → Shows rows kept →
+pub leaving_shown : (rows : RowList) (kept : KeptTable) → Shows rows kept →
     lowest_place (λ i. int_lt (get_or kept.over i (pos 0)) (pos 0))
     (λ i. get_or (map (λ line. line.basic) kept.table.lines) i 0) (length kept.table.lines) ≡ leaving rows kept.table
 leaving_shown rows kept h =
@@ -85,7 +85,7 @@ unchanged_sum y (w ∷ vs) (c ∷ cs) zero v h i e =
 unchanged_sum y (w ∷ vs) (c ∷ cs) (suc j) v h i e =
     ap (λ z. c *ℤ y w +ℤ z) (unchanged_sum y vs cs j v (omega arith) (omega arith) e)
 
-pub unchanged_over : (rows : RowList) (nonbasic : List ℕ) (j v : ℕ) (line : Line) → j < length nonbasic →
+pub unchanged_over : (rows : RowList) (nonbasic : List ℕ) (j v : ℕ) (line : TableLine) → j < length nonbasic →
     length line.coefs ≡ length nonbasic → coef_at j line ≡ pos 0 →
     over_of rows (set nonbasic j v) line ≡ over_of rows nonbasic line
 unchanged_over rows nonbasic j v line h w e =
@@ -93,7 +93,7 @@ unchanged_over rows nonbasic j v line h w e =
     (unchanged_sum (bound_of rows) nonbasic line.coefs j v h (omega arith) e)
 
 -- ---- the lines that are made
-pub numbers_small : (line : Line) → HasNumbers line → is_large_line line ≡ false
+pub numbers_small : (line : TableLine) → HasNumbers line → is_large_line line ≡ false
 numbers_small line h =
     neither (is_large line.times) (list_any is_large line.coefs) (small line.times h.times)
     (list_any_none is_large line.coefs (All-weaker IsNumber (λ c. is_large c ≡ false) small line.coefs h.coefs))
@@ -105,10 +105,10 @@ numbers_small line h =
     neither true y e f = e
     neither false y e f = f
 
-pub line_small : (n : ℕ) (line : Line) → IsLine n line → is_large_line line ≡ false
+pub line_small : (n : ℕ) (line : TableLine) → IsLine n line → is_large_line line ≡ false
 line_small n line h = numbers_small line (record { times = h.times; coefs = h.coefs })
 
-pub entered_line : (entry : Entry) (line : Line) → IsEntry entry → IsLine (length entry.left.coefs) line →
+pub entered_line : (entry : EnteredLine) (line : TableLine) → IsEntry entry → IsLine (length entry.left.coefs) line →
     is_large_line (entered entry line) ≡ false → IsLine (length entry.left.coefs) (entered entry line)
 entered_line entry line e l s =
     let put = put_into entry.column entry.left line in
@@ -122,7 +122,7 @@ entered_line entry line e l s =
       coefs = small.coefs;
     }
 
-pub solved_is_line : (entry : Entry) → IsEntry entry → is_large_line (solved_line entry) ≡ false →
+pub solved_is_line : (entry : EnteredLine) → IsEntry entry → is_large_line (solved_line entry) ≡ false →
     IsLine (length entry.left.coefs) (solved_line entry)
 solved_is_line entry e s =
     let own = solved_for entry.column entry.entering entry.left in
@@ -168,7 +168,8 @@ pub map_after : {X Y Z : Type 0} (f : Y → Z) (g : X → Y) (xs : List X) → m
 map_after f g [] = refl
 map_after f g (x ∷ xs) = ap (λ ys. f (g x) ∷ ys) (map_after f g xs)
 
-pub none_more : (g : Line → Line) (xs : List Line) (i : ℕ) (x : Line) → i < length xs → x ≡ get_or xs i x →
+pub none_more : (g : TableLine → TableLine) (xs : List TableLine) (i : ℕ) (x : TableLine) → i < length xs
+    → x ≡ get_or xs i x →
     list_any is_large_line (map g (take i xs)) ≡ false → is_large_line (g x) ≡ false →
     list_any is_large_line (map g (take (i + 1) xs)) ≡ false
 none_more g [] i x h e n s = absurd (omega arith)
@@ -179,7 +180,8 @@ none_more g (y ∷ xs) (suc i) x h e n s =
     rw add-one (neither (is_large_line (g y)) (list_any is_large_line (map g (take (suc i) xs))) both.0
     (rw add-one at (none_more g xs i x (omega arith) e both.1 s)))
 
-pub some_large : (g : Line → Line) (xs : List Line) (i : ℕ) (x : Line) → i < length xs → x ≡ get_or xs i x →
+pub some_large : (g : TableLine → TableLine) (xs : List TableLine) (i : ℕ) (x : TableLine) → i < length xs
+    → x ≡ get_or xs i x →
     is_large_line (g x) ≡ true → list_any is_large_line (map g xs) ≡ true
 some_large g [] i x h e s = absurd (omega arith)
 some_large g (y ∷ xs) zero x h e s =
@@ -196,7 +198,7 @@ some_large g (y ∷ xs) (suc i) x h e s =
     behind false b f = f
 
 -- ---- lines put behind others
-pub none_behind : (xs : List Line) (x : Line) → list_any is_large_line xs ≡ false → is_large_line x ≡ false →
+pub none_behind : (xs : List TableLine) (x : TableLine) → list_any is_large_line xs ≡ false → is_large_line x ≡ false →
     list_any is_large_line (xs ++ x ∷ []) ≡ false
 none_behind [] x n s = neither (is_large_line x) (list_any is_large_line []) s refl
 none_behind (y ∷ xs) x n s =
@@ -214,7 +216,7 @@ remove_map f [] (suc i) = refl
 remove_map f (x ∷ xs) zero = refl
 remove_map f (x ∷ xs) (suc i) = ap (λ ys. f x ∷ ys) (remove_map f xs i)
 
-pub removed_overs : (f : Line → ℤ) (lines : List Line) (overs : List ℤ) (i : ℕ) → overs ≡ map f lines →
+pub removed_overs : (f : TableLine → ℤ) (lines : List TableLine) (overs : List ℤ) (i : ℕ) → overs ≡ map f lines →
     remove overs i ≡ map f (remove lines i)
 removed_overs f lines overs i e = ap (λ zs. remove zs i) e ∙ remove_map f lines i
 
@@ -224,7 +226,7 @@ maps_alike f g (x ∷ xs) h =
     λ p. All-head (λ y. f y ≡ g y) x xs h p ∷ maps_alike f g xs (All-tail (λ y. f y ≡ g y) x xs h) p
 
 -- the lines after an exchange, by the one of the line that is left and its opposite that has a coefficient over 0
-pub lines_by_oriented : (n i j e : ℕ) (left : Line) (lines : List Line) → All (IsLine n) lines →
+pub lines_by_oriented : (n i j e : ℕ) (left : TableLine) (lines : List TableLine) → All (IsLine n) lines →
     j < length left.coefs → ¬ (coef_at j left ≡ pos 0) →
     map (λ line. in_lowest_terms (put_into j (oriented_of j left) line)) (remove lines i)
     ++ in_lowest_terms (solved_for j e (oriented_of j left)) ∷ [] ≡ lines_exchanged i j e left lines
@@ -249,7 +251,7 @@ set_again (z ∷ zs) zero y x h e = λ p. e p ∷ zs
 set_again (z ∷ zs) (suc k) y x h e = ap (λ ws. z ∷ ws) (set_again zs k y x (omega arith) e)
 
 -- ---- what is kept of a line with the entering variable put in
-pub put_over : (rows : RowList) (vs : List ℕ) (j : ℕ) (left line : Line) → j < length vs → j < length left.coefs →
+pub put_over : (rows : RowList) (vs : List ℕ) (j : ℕ) (left line : TableLine) → j < length vs → j < length left.coefs →
     length line.coefs ≡ length left.coefs → over_of rows (set vs j left.basic) (put_into j left line) ≡ coef_at j left
     *ℤ over_of rows vs line -ℤ coef_at j line *ℤ over_of rows vs left
 put_over rows vs j left line h i w =
@@ -264,7 +266,7 @@ put_over rows vs j left line h i w =
     other_first : (a b c : ℤ) → a -ℤ b -ℤ c ≡ a -ℤ c -ℤ b
     other_first a b c = omega (arith, ints)
 
-pub opposite_over : (rows : RowList) (vs : List ℕ) (line : Line) →
+pub opposite_over : (rows : RowList) (vs : List ℕ) (line : TableLine) →
     over_of rows vs (opposite_of line) ≡ neg_ℤ (over_of rows vs line)
 opposite_over rows vs line =
     let y = bound_of rows in
@@ -275,7 +277,7 @@ opposite_over rows vs line =
     both_turned a b = omega (arith, ints)
 
 -- a line that keeps the number before its variable is in lowest terms
-pub lowest_same : (line : Line) → pos 0 <ℤ line.times → line.times ≡ (in_lowest_terms line).times →
+pub lowest_same : (line : TableLine) → pos 0 <ℤ line.times → line.times ≡ (in_lowest_terms line).times →
     in_lowest_terms line ≡ line
 lowest_same line over e =
     let g = common (unsigned_abs line.times) line.coefs in
@@ -284,18 +286,18 @@ lowest_same line over e =
     let n = unsigned_abs line.times in
     let whole = exact g line.times size.0 (common_divides_first n line.coefs) in
     let same : g * n ≡ n = sym (unsigned_abs-mul (pos g) line.times) ∙ ap unsigned_abs (ap (λ z. pos g *ℤ z) (e
-    ∙ ap (λ (l : Line). l.times) is) ∙ whole) in
+    ∙ ap (λ (l : TableLine). l.times) is) ∙ whole) in
     let one : g ≡ 1 = divisor_left g n (omega (arith, size.0, size.1)) (subst (λ m. m ∣ n) (sym same) (dvd_refl n)) in
     is ∙ ap (λ k. divided_by (pos k) line) one ∙ divided_by_one line
 
-pub put_kept : (rows : RowList) (entry : Entry) (line made : Line) (put : Put) → IsEntry entry →
+pub put_kept : (rows : RowList) (entry : EnteredLine) (line made : TableLine) (put : PutIn) → IsEntry entry →
     IsLine (length entry.left.coefs) line → made ≡ entered entry line → IsPut rows entry line put →
     IsKeptPut rows entry made put
 put_kept rows entry line made put e l is has same =
     let own = put_into entry.column entry.left line in
     let n = put_not_zero entry.column entry.left line (not_zero_over (coef_at entry.column entry.left) e.over_zero)
     l.positive in
-    let times : own.times ≡ (in_lowest_terms own).times = sym has.times ∙ same ∙ ap (λ (m : Line). m.times) is in
+    let times : own.times ≡ (in_lowest_terms own).times = sym has.times ∙ same ∙ ap (λ (m : TableLine). m.times) is in
     let over = subst (λ z. pos 0 <ℤ z) (sym times) (lowest_over_zero own n) in
     has.over ∙ ap (over_of rows entry.nonbasic.items) (sym (is ∙ lowest_same own over times))
 

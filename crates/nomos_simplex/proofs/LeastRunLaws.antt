@@ -31,7 +31,7 @@ use Rattle.nomos_simplex.specs.declared.solved.SolvedLeast.{SolvedLeast}
 use Rattle.nomos_simplex.specs.declared.solved.SolvedLeast.TheVariants as least
 use Rattle.nomos_simplex.specs.declared.solved.Stop.TheVariants as stop
 use Rattle.nomos_simplex.specs.declared.solved.Stop.{Stop}
-use Rattle.nomos_simplex.specs.declared.table.Line.{Line}
+use Rattle.nomos_simplex.specs.declared.table.TableLine.{TableLine}
 use Rattle.nomos_simplex.specs.declared.table.Table.{Table}
 use Rattle.nomos_simplex.proofs.AmountLemmas.{value_of, times_product, product_positive, values_hold, value-nonbasic, amount_of, amounts_scaled, common-divided_by_each, dot_scaled}
 use Rattle.nomos_simplex.proofs.CountLemmas.{All-from_map}
@@ -47,7 +47,8 @@ use Rattle.nomos_simplex.proofs.VariableLemmas.{nonbasic-is_variable}
 use Rattle.nomos_simplex.proofs.VerdictLemmas.{least-of_variable, star-of_variable, variable-is_one_of, All-weights_below, length-weights_below, weighted-weights_below, unit_holds, unit_sum}
 
 -- ---- the coefficients of the goal's line at the end
-not_below : (table : Table) (line : Line) → length line.coefs ≡ length table.nonbasic → lowering table line ≡ None →
+not_below : (table : Table) (line : TableLine) → length line.coefs ≡ length table.nonbasic → lowering table line ≡ None
+    →
     All (λ c. pos 0 ≤ℤ c) line.coefs
 not_below table line w e k d l =
     let no = none_passes (λ j. int_lt (get_or line.coefs j (pos 0)) (pos 0)) (λ j. get_or table.nonbasic j 0)
@@ -72,7 +73,7 @@ abbrev total_amounts : RowList → Table → List ℕ
 total_amounts rows table = amounts_over (common_denominator 1 (fractions rows table)) (fractions rows table)
 
 -- the goal's value, without its written part
-value_scaled : (rows : RowList) (goal : Form) (table : Table) (line : Line) → IsForm rows.stars goal →
+value_scaled : (rows : RowList) (goal : Form) (table : Table) (line : TableLine) → IsForm rows.stars goal →
     IsAimed rows goal table line →
     line.times *ℤ dot goal.coefs (total_amounts rows table) ≡ pos (common_denominator 1 (fractions rows table)) *ℤ
     sum_at (bound_of rows) table.nonbasic line.coefs
@@ -109,7 +110,7 @@ less_written : (total value written : ℤ) → total ≡ value +ℤ written → 
 less_written total value written h = omega (arith, ints)
 
 -- ---- the proof
-module _ (rows : RowList) (goal : Form) (table : Table) (line : Line) (f : IsForm rows.stars goal)
+module _ (rows : RowList) (goal : Form) (table : Table) (line : TableLine) (f : IsForm rows.stars goal)
     (a : IsAimed rows goal table line) (low : lowering table line ≡ None) where
   high : All (λ c. pos 0 ≤ℤ c) line.coefs
   high = not_below table line a.numbers.fits.width low
@@ -183,7 +184,7 @@ found_is : (g f : Found) (s : Stop) (t : Bool) → cond t (solved.Found g) (solv
 found_is g f s true e = cc
 found_is g f s false e = cc
 
-least_right : (rows : RowList) (goal : Form) (table : Table) (line : Line) (pivots : ℕ) (f : Found) (t : Bool) →
+least_right : (rows : RowList) (goal : Form) (table : Table) (line : TableLine) (pivots : ℕ) (f : Found) (t : Bool) →
     (t ≡ true → IsRightLeast rows goal (least.Found f
     (proof_of rows table line (unsigned_abs (form_value f.stars f.unit goal))))) →
     IsRightLeast rows goal (cond t
@@ -192,7 +193,7 @@ least_right : (rows : RowList) (goal : Form) (table : Table) (line : Line) (pivo
 least_right rows goal table line pivots f true h = h refl
 least_right rows goal table line pivots f false h = tt
 
-end_right : (rows : RowList) (goal : Form) (pivots : ℕ) (table : Table) (line : Line) (s : Solved) →
+end_right : (rows : RowList) (goal : Form) (pivots : ℕ) (table : Table) (line : TableLine) (s : Solved) →
     IsForm rows.stars goal → IsAimed rows goal table line → lowering table line ≡ None →
     found_or_large pivots (fractions rows table) ≡ s →
     IsRightLeast rows goal (least_or_large pivots rows goal table line s)
@@ -235,14 +236,14 @@ HasTotal goal (least.Found f p) = form_value f.stars f.unit goal ≡ pos p.total
 HasTotal goal (least.Refuted v) = Unit {0}
 HasTotal goal (least.Unsolved s) = Unit {0}
 
-total-where : (rows : RowList) (goal : Form) (table : Table) (line : Line) (pivots : ℕ) (f : Found) (t : Bool) →
+total-where : (rows : RowList) (goal : Form) (table : Table) (line : TableLine) (pivots : ℕ) (f : Found) (t : Bool) →
     is_total (form_value f.stars f.unit goal) ≡ t → HasTotal goal (cond t
     (least.Found f (proof_of rows table line (unsigned_abs (form_value f.stars f.unit goal))))
     (least.Unsolved (stop.Large pivots)))
 total-where rows goal table line pivots f true e = sym (total_is (form_value f.stars f.unit goal) e)
 total-where rows goal table line pivots f false e = tt
 
-end-total : (rows : RowList) (goal : Form) (pivots : ℕ) (table : Table) (line : Line) (s : Solved) →
+end-total : (rows : RowList) (goal : Form) (pivots : ℕ) (table : Table) (line : TableLine) (s : Solved) →
     HasTotal goal (least_or_large pivots rows goal table line s)
 end-total rows goal pivots table line (solved.Found f) =
     total-where rows goal table line pivots f (is_total (form_value f.stars f.unit goal)) refl
@@ -269,14 +270,14 @@ IsPivots rows (least.Refuted v) = answer_to rows ≡ solved.Refuted v
 IsPivots rows (least.Found f p) = Unit {0}
 IsPivots rows (least.Unsolved s) = Unit {0}
 
-large-pivots : (rows : RowList) (goal : Form) (table : Table) (line : Line) (pivots : ℕ) (f : Found) (t : Bool) →
+large-pivots : (rows : RowList) (goal : Form) (table : Table) (line : TableLine) (pivots : ℕ) (f : Found) (t : Bool) →
     IsPivots rows (cond t
     (least.Found f (proof_of rows table line (unsigned_abs (form_value f.stars f.unit goal))))
     (least.Unsolved (stop.Large pivots)))
 large-pivots rows goal table line pivots f true = tt
 large-pivots rows goal table line pivots f false = tt
 
-end-pivots : (rows : RowList) (goal : Form) (pivots : ℕ) (table : Table) (line : Line) (f : Found) (t : Bool) →
+end-pivots : (rows : RowList) (goal : Form) (pivots : ℕ) (table : Table) (line : TableLine) (f : Found) (t : Bool) →
     IsPivots rows
     (least_or_large pivots rows goal table line (cond t (solved.Found f) (solved.Unsolved (stop.Large pivots))))
 end-pivots rows goal pivots table line f true =

@@ -12,7 +12,7 @@ use Rattle.nomos_simplex.specs.Tables.{bound_of, sum_at}
 use Rattle.nomos_simplex.specs.Divisors.{common, in_lowest_terms}
 use Rattle.nomos_simplex.specs.Exchange.{coef_at, eliminated, put_into}
 use Rattle.nomos_simplex.specs.Sizes.{IsNumber, HasNumbers}
-use Rattle.nomos_simplex.specs.declared.table.Line.{Line}
+use Rattle.nomos_simplex.specs.declared.table.TableLine.{TableLine}
 use Rattle.nomos_simplex.specs.mirror.Keeping.{sum_of, over_by, over_of}
 use Rattle.nomos_simplex.proofs.DivisorLemmas.{lowest_is, lowest_times}
 
@@ -111,7 +111,7 @@ set_same [] k x h e = absurd (omega arith)
 set_same (y ∷ ys) zero x h e = λ i. e i ∷ ys
 set_same (y ∷ ys) (suc k) x h e = ap (λ zs. y ∷ zs) (set_same ys k x (omega arith) e)
 
-pub skipped : (j : ℕ) (left line : Line) → j < length left.coefs → length line.coefs ≡ length left.coefs →
+pub skipped : (j : ℕ) (left line : TableLine) → j < length left.coefs → length line.coefs ≡ length left.coefs →
     pos 0 <ℤ coef_at j left → pos 0 <ℤ line.times → coef_at j line ≡ pos 0 →
     common (unsigned_abs line.times) line.coefs ≡ 1 → in_lowest_terms (put_into j left line) ≡ line
 skipped j left line low width over positive none lowest =
@@ -157,7 +157,7 @@ sum_of_bounds y [] cs = refl
 sum_of_bounds y (v ∷ vs) [] = refl
 sum_of_bounds y (v ∷ vs) (c ∷ cs) = ap (λ z. c *ℤ y v +ℤ z) (sum_of_bounds y vs cs)
 
-pub over_by_bounds : (rows : RowList) (nonbasic : List ℕ) (bounds : List ℤ) (line : Line) →
+pub over_by_bounds : (rows : RowList) (nonbasic : List ℕ) (bounds : List ℤ) (line : TableLine) →
     bounds ≡ map (bound_of rows) nonbasic → over_by rows bounds line ≡ over_of rows nonbasic line
 over_by_bounds rows nonbasic bounds line e =
     ap (λ bs. over_by rows bs line) e
@@ -180,7 +180,7 @@ quotient_small g (negsuc n) h =
     abs_turned zero = refl
     abs_turned (suc k) = refl
 
-pub lowest_small : (line : Line) → pos 0 <ℤ line.times → HasNumbers line → HasNumbers (in_lowest_terms line)
+pub lowest_small : (line : TableLine) → pos 0 <ℤ line.times → HasNumbers line → HasNumbers (in_lowest_terms line)
 lowest_small line over h =
     let g = common (unsigned_abs line.times) line.coefs in
     subst HasNumbers (sym (lowest_is line g over refl)) (record {

@@ -14,7 +14,7 @@ use Rattle.nomos_simplex.specs.LeastRun.{PivotsTo, Exchanges, Lowers, line_excha
 use Rattle.nomos_simplex.specs.Nearest.{lowering, nearest, is_nearer, line_at}
 use Rattle.nomos_simplex.specs.Sizes.{IsLine}
 use Rattle.nomos_simplex.specs.Tables.{sum_at, HoldsAt, Holds, first_table}
-use Rattle.nomos_simplex.specs.declared.table.Line.{Line}
+use Rattle.nomos_simplex.specs.declared.table.TableLine.{TableLine}
 use Rattle.nomos_simplex.specs.declared.table.Table.{Table}
 use Rattle.nomos_simplex.proofs.AmountLemmas.{NoneBelow}
 use Rattle.nomos_simplex.proofs.BoundedLemmas.{some_nearest}
@@ -35,7 +35,7 @@ reached-is_table rows pivots table (PivotsTo.goes_on {pivots = before} {table = 
     turn-goes_on (2000 - before) before rows earlier after (reached-is_table rows before earlier r) e
 
 -- ---- the least run
-pub record IsAimed (rows : RowList) (goal : Form) (table : Table) (line : Line) : Type 0 where
+pub record IsAimed (rows : RowList) (goal : Form) (table : Table) (line : TableLine) : Type 0 where
   pub of_rows : IsTableOfRows rows table
   pub none : NoneBelow rows table
   pub numbers : IsGoalLine table line
@@ -49,7 +49,8 @@ not_zero_under : (c : ℤ) → c <ℤ pos 0 → ¬ (c ≡ pos 0)
 not_zero_under c h e = omega (arith, ints, lt_out c (pos 0) h)
 
 -- an exchange of the least run is one of a coefficient below 0
-pub lowered_of : (rows : RowList) (table : Table) (line : Line) (i j : ℕ) (left : Line) → IsTableOfRows rows table →
+pub lowered_of : (rows : RowList) (table : Table) (line : TableLine) (i j : ℕ) (left : TableLine)
+    → IsTableOfRows rows table →
     Exchanges rows table line i j left → IsLowered rows table i j left
 lowered_of rows table line i j left t x =
     let column =
@@ -60,7 +61,7 @@ lowered_of rows table line i j left t x =
     (λ n m. is_nearer rows table.nonbasic j (line_at table.lines n) (line_at table.lines m)) (length table.lines) i
     x.place in
     let is : line_at table.lines i ≡ left = get_or_from_slice_get table.lines i left _ x.there in
-    let under = subst (λ (l : Line). coef_at j l <ℤ pos 0) is
+    let under = subst (λ (l : TableLine). coef_at j l <ℤ pos 0) is
     (below_zero (coef_at j (line_at table.lines i)) place.1) in
     record {
       may = record {
@@ -73,7 +74,7 @@ lowered_of rows table line i j left t x =
       nearest = x.place;
     }
 
-aimed_after : (rows : RowList) (goal : Form) (table : Table) (line : Line) (i j : ℕ) (left : Line) →
+aimed_after : (rows : RowList) (goal : Form) (table : Table) (line : TableLine) (i j : ℕ) (left : TableLine) →
     IsAimed rows goal table line → Exchanges rows table line i j left →
     is_large_with (exchanged i j left table) (line_exchanged j left line) ≡ false →
     IsAimed rows goal (exchanged i j left table) (line_exchanged j left line)
@@ -106,7 +107,7 @@ aimed_after rows goal table line i j left a x large =
     }
 
 -- each table and goal's line that the least run comes to
-pub aimed : (rows : RowList) (goal : Form) (pivots : ℕ) (table : Table) (line : Line) → IsForm rows.stars goal →
+pub aimed : (rows : RowList) (goal : Form) (pivots : ℕ) (table : Table) (line : TableLine) → IsForm rows.stars goal →
     Lowers rows goal pivots table line → IsAimed rows goal table line
 aimed rows goal pivots table line f (Lowers.begins ends e) =
     let t = reached-is_table rows pivots table ends.reaches in
@@ -121,7 +122,8 @@ aimed rows goal pivots table line f
     aimed_after rows goal earlier own i j left (aimed rows goal before earlier own f l) x large
 
 -- where a variable enters, another one leaves
-pub one_leaves : (rows : RowList) (goal : Form) (table : Table) (line : Line) (j : ℕ) → IsAimed rows goal table line →
+pub one_leaves : (rows : RowList) (goal : Form) (table : Table) (line : TableLine) (j : ℕ)
+    → IsAimed rows goal table line →
     All (λ c. pos 0 ≤ℤ c) goal.coefs → lowering table line ≡ Some j → ¬ (nearest rows table j ≡ None)
 one_leaves rows goal table line j a high e none =
     let column =
@@ -131,7 +133,7 @@ one_leaves rows goal table line j a high e none =
     (below_zero (coef_at j line) column.1) none
 
 -- how large the numbers of the goal's line are
-pub line-is_line : (rows : RowList) (goal : Form) (table : Table) (line : Line) → IsAimed rows goal table line →
+pub line-is_line : (rows : RowList) (goal : Form) (table : Table) (line : TableLine) → IsAimed rows goal table line →
     IsLine (length table.nonbasic) line
 line-is_line rows goal table line a =
     let small = small_line line a.numbers.small in

@@ -10,7 +10,7 @@ use Rattle.nomos_forms.specs.declared.row_list.RowList.{RowList}
 use Rattle.nomos_simplex.specs.Exits.{fractions, fraction_of, found_or_large}
 use Rattle.nomos_simplex.specs.GoalLine.{goal_from, no_goal}
 use Rattle.nomos_simplex.specs.LeastRun.{PivotsTo, Lowers, LeastRun, is_total, least_or_large}
-use Rattle.nomos_simplex.specs.Lowest.{leaving, entering, lowest_place}
+use Rattle.nomos_simplex.specs.LowestVariable.{leaving, entering, lowest_place}
 use Rattle.nomos_simplex.specs.Nearest.{lowering}
 use Rattle.nomos_simplex.specs.PivotRun.{turn, turn_at, turn_on, turn_from, end_of, run, answer_to}
 use Rattle.nomos_simplex.specs.Tables.{first_table}
@@ -20,13 +20,13 @@ use Rattle.nomos_simplex.specs.declared.solved.Solved.TheVariants as solved
 use Rattle.nomos_simplex.specs.declared.solved.SolvedLeast.{SolvedLeast}
 use Rattle.nomos_simplex.specs.declared.solved.SolvedLeast.TheVariants as least
 use Rattle.nomos_simplex.specs.declared.solved.Stop.{Stop}
-use Rattle.nomos_simplex.specs.declared.table.Line.{Line}
+use Rattle.nomos_simplex.specs.declared.table.TableLine.{TableLine}
 use Rattle.nomos_simplex.specs.declared.table.Table.{Table}
-use Rattle.nomos_simplex.specs.declared.turn.Turn.{Turn}
-use Rattle.nomos_simplex.specs.declared.turn.Turn.TheVariants.{Ends, Goes}
+use Rattle.nomos_simplex.specs.declared.turn.PivotTurn.{PivotTurn}
+use Rattle.nomos_simplex.specs.declared.turn.PivotTurn.TheVariants.{Ends, Goes}
 
 -- the turn ends with an answer
-abbrev IsAnswered : Turn → Type 0
+abbrev IsAnswered : PivotTurn → Type 0
 IsAnswered (Ends (solved.Found found)) = Unit {0}
 IsAnswered (Ends (solved.Refuted verdict)) = Unit {0}
 IsAnswered (Ends (solved.Unsolved stop)) = ⊥
@@ -37,7 +37,7 @@ no-fractions : (rows : RowList) (table : Table) → rows.stars ≡ 0 → fractio
 no-fractions rows table none = ap (λ n. map (fraction_of rows table) (range_with_len 1 n)) none
 
 -- no variable may enter
-no-entering : (rows : RowList) (line : Line) → rows.stars ≡ 0 → entering (first_table rows) line ≡ None
+no-entering : (rows : RowList) (line : TableLine) → rows.stars ≡ 0 → entering (first_table rows) line ≡ None
 no-entering rows line none =
     ap (λ n. lowest_place (λ j. int_lt (pos 0) (slice_index_or line.coefs j (pos 0)))
     (λ j. slice_index (range_with_len 1 rows.stars) j) n) (ap (λ n. length (range_with_len 1 n)) none)
@@ -45,7 +45,7 @@ no-entering rows line none =
 found-answered : (fs : List (ℕ × ℕ)) → fs ≡ [] → IsAnswered (Ends (found_or_large 0 fs))
 found-answered fs none = subst (λ (gs : List (ℕ × ℕ)). IsAnswered (Ends (found_or_large 0 gs))) (sym none) tt
 
-answered-on : (rows : RowList) (i : ℕ) (line : Option Line) → rows.stars ≡ 0
+answered-on : (rows : RowList) (i : ℕ) (line : Option TableLine) → rows.stars ≡ 0
     → IsAnswered (turn_on 2000 0 rows (first_table rows) i line)
 answered-on rows i None none =
     found-answered (fractions rows (first_table rows)) (no-fractions rows (first_table rows) none)
@@ -60,7 +60,7 @@ answered-from rows None none =
 answered-from rows (Some i) none = answered-on rows i (slice_get (first_table rows).lines i) none
 
 -- a turn that ends with an answer does not stop
-ends-answered : (turn : Turn) (go_on : Table → Solved) (stop : Stop) → IsAnswered turn
+ends-answered : (turn : PivotTurn) (go_on : Table → Solved) (stop : Stop) → IsAnswered turn
     → ¬ (end_of turn go_on ≡ solved.Unsolved stop)
 ends-answered (Ends (solved.Found found)) go_on stop h = λ e. cc
 ends-answered (Ends (solved.Refuted verdict)) go_on stop h = λ e. cc
@@ -74,7 +74,7 @@ no_stars-answer rows stop none =
     (answered-from rows (leaving rows (first_table rows)) none)
 
 -- ---- the least run
-goes-nowhere : (turn : Turn) (after : Table) → IsAnswered turn → turn ≡ Goes after → ⊥
+goes-nowhere : (turn : PivotTurn) (after : Table) → IsAnswered turn → turn ≡ Goes after → ⊥
 goes-nowhere (Ends answer) after h e = absurd cc
 goes-nowhere (Goes table) after h e = absurd h
 
@@ -90,17 +90,17 @@ reached-first rows n t none (PivotsTo.goes_on {pivots = p} {table = earlier} aft
     absurd (goes-nowhere _ after (answered-from rows (leaving rows (first_table rows)) none) goes)
 
 -- no variable may enter there to lower a goal
-no-lowering : (rows : RowList) (line : Line) → rows.stars ≡ 0 → lowering (first_table rows) line ≡ None
+no-lowering : (rows : RowList) (line : TableLine) → rows.stars ≡ 0 → lowering (first_table rows) line ≡ None
 no-lowering rows line none =
     ap (λ n. lowest_place (λ j. int_lt (slice_index_or line.coefs j (pos 0)) (pos 0))
     (λ j. slice_index (range_with_len 1 rows.stars) j) n) (ap (λ n. length (range_with_len 1 n)) none)
 
-none-lowers : (rows : RowList) (t : Table) (l : Line) (j : ℕ) → rows.stars ≡ 0 → t ≡ first_table rows →
+none-lowers : (rows : RowList) (t : Table) (l : TableLine) (j : ℕ) → rows.stars ≡ 0 → t ≡ first_table rows →
     lowering t l ≡ Some j → ⊥
 none-lowers rows t l j none first column =
     none-some j (sym (no-lowering rows l none) ∙ ap (λ x. lowering x l) (sym first) ∙ column)
 
-lowered-first : (rows : RowList) (goal : Form) (n : ℕ) (t : Table) (l : Line) → rows.stars ≡ 0
+lowered-first : (rows : RowList) (goal : Form) (n : ℕ) (t : Table) (l : TableLine) → rows.stars ≡ 0
     → Lowers rows goal n t l → t ≡ first_table rows
 lowered-first rows goal n t l none (Lowers.begins ends e) = (reached-first rows n t none ends.reaches).1
 lowered-first rows goal n t l none
@@ -118,7 +118,7 @@ chosen : (b : Bool) (f : Found) (proof : Proof) (stop : Stop) → b ≡ true
 chosen true f proof stop e = tt
 chosen false f proof stop e = absurd cc
 
-totalled : (n : ℕ) (rows : RowList) (goal : Form) (t : Table) (l : Line) (fs : List (ℕ × ℕ)) → fs ≡ []
+totalled : (n : ℕ) (rows : RowList) (goal : Form) (t : Table) (l : TableLine) (fs : List (ℕ × ℕ)) → fs ≡ []
     → is_total (form_value [] 1 goal) ≡ true
     → IsAnsweredLeast (least_or_large n rows goal t l (found_or_large n fs))
 totalled n rows goal t l fs none total =

@@ -9,7 +9,7 @@ use Rattle.nomos_simplex.specs.Exchange.{exchanged}
 use Rattle.nomos_simplex.specs.Exits.{fractions, found_or_large}
 use Rattle.nomos_simplex.specs.GoalLine.{goal_line}
 use Rattle.nomos_simplex.specs.LeastRun.{PivotsTo, EndsFound, Exchanges, Lowers, LeastRun, line_exchanged, is_large_with, least_or_large}
-use Rattle.nomos_simplex.specs.Lowest.{leaving}
+use Rattle.nomos_simplex.specs.LowestVariable.{leaving}
 use Rattle.nomos_simplex.specs.Nearest.{lowering, nearest}
 use Rattle.nomos_simplex.specs.PivotRun.{turn, turn_from, answer_to}
 use Rattle.nomos_simplex.specs.declared.solved.Solved.TheVariants as solved
@@ -17,9 +17,9 @@ use Rattle.nomos_simplex.specs.declared.solved.SolvedLeast.{SolvedLeast}
 use Rattle.nomos_simplex.specs.declared.solved.SolvedLeast.TheVariants as least
 use Rattle.nomos_simplex.specs.declared.solved.Stop.{Stop}
 use Rattle.nomos_simplex.specs.declared.solved.Stop.TheVariants as stop
-use Rattle.nomos_simplex.specs.declared.table.Line.{Line}
+use Rattle.nomos_simplex.specs.declared.table.TableLine.{TableLine}
 use Rattle.nomos_simplex.specs.declared.table.Table.{Table}
-use Rattle.nomos_simplex.specs.declared.turn.Turn.TheVariants.{Goes}
+use Rattle.nomos_simplex.specs.declared.turn.PivotTurn.TheVariants.{Goes}
 
 same_some : {A : Type 0} (a b : A) → Some a ≡ Some b → a ≡ b
 same_some a b e = cc
@@ -84,12 +84,12 @@ found-once rows n m t u a b =
 record Began (rows : RowList) (goal : Form) (n : ℕ) : Type 0 where
   at : ℕ
   table : Table
-  line : Line
+  line : TableLine
   ends : EndsFound rows at table
   is : goal_line table goal ≡ Some line
   most : at ≤ n
 
-began : (rows : RowList) (goal : Form) (n : ℕ) (t : Table) (l : Line) → Lowers rows goal n t l → Began rows goal n
+began : (rows : RowList) (goal : Form) (n : ℕ) (t : Table) (l : TableLine) → Lowers rows goal n t l → Began rows goal n
 began rows goal n t l (Lowers.begins ends e) =
     record { at = n; table = t; line = l; ends = ends; is = e; most = omega arith }
 began rows goal n t l (Lowers.goes_on {pivots = p} {table = earlier} {line = own} i j left d x most small) =
@@ -97,7 +97,8 @@ began rows goal n t l (Lowers.goes_on {pivots = p} {table = earlier} {line = own
     record { at = b.at; table = b.table; line = b.line; ends = b.ends; is = b.is; most = omega (arith, b.most) }
 
 -- what is exchanged
-exchanged-once : (rows : RowList) (t : Table) (l : Line) (i j m n : ℕ) (left own : Line) → Exchanges rows t l i j left →
+exchanged-once : (rows : RowList) (t : Table) (l : TableLine) (i j m n : ℕ) (left own : TableLine)
+    → Exchanges rows t l i j left →
     Exchanges rows t l m n own
     → (exchanged i j left t ≡ exchanged m n own t) × (line_exchanged j left l ≡ line_exchanged n own l)
 exchanged-once rows t l i j m n left own x y =
@@ -110,7 +111,7 @@ exchanged-once rows t l i j m n left own x y =
       ap (λ c. line_exchanged c left l) columns ∙ ap (λ c. line_exchanged n c l) lines,
     )
 
-exchanges-once : (rows : RowList) (t u : Table) (l k : Line) (i j m n : ℕ) (left own : Line) → t ≡ u → l ≡ k →
+exchanges-once : (rows : RowList) (t u : Table) (l k : TableLine) (i j m n : ℕ) (left own : TableLine) → t ≡ u → l ≡ k →
     Exchanges rows t l i j left → Exchanges rows u k m n own
     → (exchanged i j left t ≡ exchanged m n own u) × (line_exchanged j left l ≡ line_exchanged n own k)
 exchanges-once rows t u l k i j m n left own e f x y =
@@ -120,7 +121,7 @@ exchanges-once rows t u l k i j m n left own e f x y =
     (same.0 ∙ ap (λ z. exchanged m n own z) e, same.1 ∙ ap (λ z. line_exchanged n own z) f)
 
 -- after so many pivots it has come to one table and one line
-lowered-once : (rows : RowList) (goal : Form) (n m : ℕ) (t u : Table) (l k : Line) → n ≡ m → Lowers rows goal n t l
+lowered-once : (rows : RowList) (goal : Form) (n m : ℕ) (t u : Table) (l k : TableLine) → n ≡ m → Lowers rows goal n t l
     → Lowers rows goal m u k → (t ≡ u) × (l ≡ k)
 lowered-once rows goal n m t u l k e (Lowers.begins ends is) (Lowers.begins others gives) =
     let at_one : t ≡ u = (found-once rows n m t u ends others).1 in
@@ -140,21 +141,22 @@ lowered-once rows goal n m t u l k e
     exchanges-once rows earlier own its that i j v w left other before.0 before.1 x y
 
 -- where it comes to more pivots, it goes on
-record StepsOn (rows : RowList) (n : ℕ) (t : Table) (l : Line) : Type 0 where
+record StepsOn (rows : RowList) (n : ℕ) (t : Table) (l : TableLine) : Type 0 where
   place : ℕ
   column : ℕ
-  left : Line
+  left : TableLine
   exchanges : Exchanges rows t l place column left
   most : n < 2000
   small : is_large_with (exchanged place column left t) (line_exchanged column left l) ≡ false
 
-steps-there : (rows : RowList) (n q : ℕ) (t u : Table) (l k : Line) → n ≡ q → t ≡ u → l ≡ k → StepsOn rows q u k →
+steps-there : (rows : RowList) (n q : ℕ) (t u : Table) (l k : TableLine) → n ≡ q → t ≡ u → l ≡ k → StepsOn rows q u k →
     StepsOn rows n t l
 steps-there rows n q t u l k e f g s =
     subst (λ c. StepsOn rows c t l) (sym e)
     (subst (λ z. StepsOn rows q z l) (sym f) (subst (λ z. StepsOn rows q u z) (sym g) s))
 
-lowered-before : (rows : RowList) (goal : Form) (n m : ℕ) (t u : Table) (l k : Line) → n < m → Lowers rows goal n t l
+lowered-before : (rows : RowList) (goal : Form) (n m : ℕ) (t u : Table) (l k : TableLine) → n < m
+    → Lowers rows goal n t l
     → Lowers rows goal m u k → StepsOn rows n t l
 lowered-before rows goal n m t u l k less d (Lowers.begins ends is) =
     let b = began rows goal n t l d in
@@ -177,16 +179,17 @@ lowered-before rows goal n m t u l k less d
     ]
 
 -- what is answered at the last table
-data Last (rows : RowList) (goal : Form) (n : ℕ) (t : Table) (l : Line) : SolvedLeast → Type 0 where
+data Last (rows : RowList) (goal : Form) (n : ℕ) (t : Table) (l : TableLine) : SolvedLeast → Type 0 where
   lowest : lowering t l ≡ None →
       Last rows goal n t l (least_or_large n rows goal t l (found_or_large n (fractions rows t)))
-  spent : (i j : ℕ) (left : Line) → n ≡ 2000 → Exchanges rows t l i j left →
+  spent : (i j : ℕ) (left : TableLine) → n ≡ 2000 → Exchanges rows t l i j left →
       Last rows goal n t l (least.Unsolved stop.Pivots)
-  too_large : (i j : ℕ) (left : Line) → Exchanges rows t l i j left → n < 2000 →
+  too_large : (i j : ℕ) (left : TableLine) → Exchanges rows t l i j left → n < 2000 →
       is_large_with (exchanged i j left t) (line_exchanged j left l) ≡ true →
       Last rows goal n t l (least.Unsolved (stop.Large (n + 1)))
 
-last-stays : (rows : RowList) (goal : Form) (n : ℕ) (t : Table) (l : Line) (a : SolvedLeast) → Last rows goal n t l a
+last-stays : (rows : RowList) (goal : Form) (n : ℕ) (t : Table) (l : TableLine) (a : SolvedLeast)
+    → Last rows goal n t l a
     → StepsOn rows n t l → ⊥
 last-stays rows goal n t l a (Last.lowest none) s = none_some none s.exchanges.column
 last-stays rows goal n t l a (Last.spent i j left e x) s = absurd (omega (arith, e, s.most))
@@ -196,7 +199,8 @@ last-stays rows goal n t l a (Last.too_large i j left x most large) s =
     sym large ∙ ap (λ y. is_large_with y (line_exchanged j left l)) same.0
     ∙ ap (λ y. is_large_with (exchanged s.place s.column s.left t) y) same.1 ∙ s.small in absurd cc
 
-last-once : (rows : RowList) (goal : Form) (n : ℕ) (t : Table) (l : Line) (a b : SolvedLeast) → Last rows goal n t l a
+last-once : (rows : RowList) (goal : Form) (n : ℕ) (t : Table) (l : TableLine) (a b : SolvedLeast)
+    → Last rows goal n t l a
     → Last rows goal n t l b → a ≡ b
 last-once rows goal n t l a b (Last.lowest none) (Last.lowest other) = refl
 last-once rows goal n t l a b (Last.lowest none) (Last.spent i j left e x) = absurd (none_some none x.column)
@@ -219,7 +223,7 @@ data Comes (rows : RowList) (goal : Form) : SolvedLeast → Type 0 where
   stopped : (s : Stop) → answer_to rows ≡ solved.Unsolved s → Comes rows goal (least.Unsolved s)
   no_goal : (n : ℕ) (t : Table) → EndsFound rows n t → goal_line t goal ≡ None →
       Comes rows goal (least.Unsolved (stop.Large n))
-  lowered : (n : ℕ) (t : Table) (l : Line) (a : SolvedLeast) → Lowers rows goal n t l → Last rows goal n t l a →
+  lowered : (n : ℕ) (t : Table) (l : TableLine) (a : SolvedLeast) → Lowers rows goal n t l → Last rows goal n t l a →
       Comes rows goal a
 
 comes : (rows : RowList) (goal : Form) (a : SolvedLeast) → LeastRun rows goal a → Comes rows goal a
@@ -247,14 +251,14 @@ same_stopped : (s r : Stop) → solved.Unsolved s ≡ solved.Unsolved r → s �
 same_stopped s r e = cc
 
 -- a goal has a line where the least run lowers it
-no_line : (rows : RowList) (goal : Form) (n m : ℕ) (t u : Table) (l : Line) → EndsFound rows n t →
+no_line : (rows : RowList) (goal : Form) (n m : ℕ) (t u : Table) (l : TableLine) → EndsFound rows n t →
     goal_line t goal ≡ None → Lowers rows goal m u l → ⊥
 no_line rows goal n m t u l ends none d =
     let b = began rows goal m u l d in
     let same = found-once rows n b.at t b.table ends b.ends in
     none_some none (ap (λ z. goal_line z goal) same.1 ∙ b.is)
 
-lowered-answers : (rows : RowList) (goal : Form) (n m : ℕ) (t u : Table) (l k : Line) (a b : SolvedLeast) →
+lowered-answers : (rows : RowList) (goal : Form) (n m : ℕ) (t u : Table) (l k : TableLine) (a b : SolvedLeast) →
     Lowers rows goal n t l → Last rows goal n t l a → Lowers rows goal m u k → Last rows goal m u k b → a ≡ b
 lowered-answers rows goal n m t u l k a b d x g y =
     elim (cases_lt n m) [

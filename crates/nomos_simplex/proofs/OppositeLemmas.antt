@@ -9,7 +9,7 @@ use Rattle.nomos_simplex.specs.Divisors.{gcd, common, signed_like, divided_by, i
 use Rattle.nomos_simplex.specs.Exchange.{coef_at, solved_for, eliminated, put_into}
 use Rattle.nomos_simplex.specs.Sizes.{IsNumber, HasNumbers}
 use Rattle.nomos_simplex.specs.mirror.Opposite.{opposite_of, oriented_of}
-use Rattle.nomos_simplex.specs.declared.table.Line.{Line}
+use Rattle.nomos_simplex.specs.declared.table.TableLine.{TableLine}
 use Rattle.nomos_simplex.proofs.DivisorLemmas.{signed_positive}
 
 -- ---- lowest terms
@@ -53,7 +53,7 @@ signed_neg (pos (suc z)) g n = ap neg_ℤ (sym (signed_positive (pos (suc z)) g 
 signed_neg (negsuc z) g n = signed_positive (pos (suc z)) g (below_in (pos 0) (pos (suc z)) (omega arith))
     ∙ sym (neg_neg (pos g))
 
-pub opposite_lowest : (line : Line) → ¬ (line.times ≡ pos 0) →
+pub opposite_lowest : (line : TableLine) → ¬ (line.times ≡ pos 0) →
     in_lowest_terms (opposite_of line) ≡ in_lowest_terms line
 opposite_lowest line n =
     let g = common (unsigned_abs line.times) line.coefs in
@@ -67,7 +67,7 @@ opposite_lowest line n =
     ∙ (λ p. record line { times = div_neg line.times d p; coefs = div_neg_all d line.coefs p })
 
 -- ---- the opposite put in, and solved
-pub coef-opposite : (j : ℕ) (line : Line) → j < length line.coefs
+pub coef-opposite : (j : ℕ) (line : TableLine) → j < length line.coefs
     → coef_at j (opposite_of line) ≡ neg_ℤ (coef_at j line)
 coef-opposite j line h = get_or-map neg_ℤ line.coefs j (pos 0) (pos 0) h
 
@@ -83,7 +83,7 @@ eliminated_neg p g [] cs = refl
 eliminated_neg p g (a ∷ as') [] = refl
 eliminated_neg p g (a ∷ as') (c ∷ cs) = λ q. cross_neg p a g c q ∷ eliminated_neg p g as' cs q
 
-put_opposite : (j : ℕ) (left line : Line) → j < length left.coefs →
+put_opposite : (j : ℕ) (left line : TableLine) → j < length left.coefs →
     put_into j (opposite_of left) line ≡ opposite_of (put_into j left line)
 put_opposite j left line h =
     let p = coef_at j left in
@@ -94,26 +94,26 @@ put_opposite j left line h =
     ∙ sym (map-set neg_ℤ (eliminated p g line.coefs left.coefs) j (g *ℤ left.times)) in
     λ q. record line { times = (ap (λ z. z *ℤ line.times) is ∙ neg_times p line.times) q; coefs = coefs q }
 
-solved_opposite : (j e : ℕ) (left : Line) → j < length left.coefs →
+solved_opposite : (j e : ℕ) (left : TableLine) → j < length left.coefs →
     solved_for j e (opposite_of left) ≡ opposite_of (solved_for j e left)
 solved_opposite j e left h =
     let coefs = sym (map-set neg_ℤ (map neg_ℤ left.coefs) j left.times) in
     λ q. record { times = coef-opposite j left h q; basic = e; coefs = coefs q }
 
-pub put_turned : (j : ℕ) (left line : Line) → j < length left.coefs → ¬ ((put_into j left line).times ≡ pos 0) →
+pub put_turned : (j : ℕ) (left line : TableLine) → j < length left.coefs → ¬ ((put_into j left line).times ≡ pos 0) →
     in_lowest_terms (put_into j (opposite_of left) line) ≡ in_lowest_terms (put_into j left line)
 put_turned j left line h n = ap in_lowest_terms (put_opposite j left line h) ∙ opposite_lowest (put_into j left line) n
 
 -- ---- one of the two, with the coefficient of the column over 0
-pub opposite_numbers : (line : Line) → HasNumbers line → HasNumbers (opposite_of line)
+pub opposite_numbers : (line : TableLine) → HasNumbers line → HasNumbers (opposite_of line)
 opposite_numbers line h = record {
   times = subst (λ n. n < 4611686018427387904) (sym (abs_neg line.times)) h.times;
   coefs = All-map IsNumber neg_ℤ line.coefs
       (λ k d l. subst (λ n. n < 4611686018427387904) (sym (abs_neg (get_or line.coefs k d))) (h.coefs k d l));
 }
 
-module _ (j : ℕ) (left : Line) (h : j < length left.coefs) (n : ¬ (coef_at j left ≡ pos 0)) where
-  by_sign : (P : Line → Type 0) → P left → P (opposite_of left) → P (oriented_of j left)
+module _ (j : ℕ) (left : TableLine) (h : j < length left.coefs) (n : ¬ (coef_at j left ≡ pos 0)) where
+  by_sign : (P : TableLine → Type 0) → P left → P (opposite_of left) → P (oriented_of j left)
   by_sign P own other = of_test (int_lt (coef_at j left) (pos 0))
     where
       of_test : (t : Bool) → P (cond t (opposite_of left) left)
@@ -145,7 +145,7 @@ module _ (j : ℕ) (left : Line) (h : j < length left.coefs) (n : ¬ (coef_at j 
   pub oriented_numbers : HasNumbers left → HasNumbers (oriented_of j left)
   oriented_numbers m = by_sign HasNumbers m (opposite_numbers left m)
 
-  pub put_oriented : (line : Line) → ¬ ((put_into j left line).times ≡ pos 0) →
+  pub put_oriented : (line : TableLine) → ¬ ((put_into j left line).times ≡ pos 0) →
       in_lowest_terms (put_into j (oriented_of j left) line) ≡ in_lowest_terms (put_into j left line)
   put_oriented line m = by_sign
       (λ l. in_lowest_terms (put_into j l line) ≡ in_lowest_terms (put_into j left line)) refl

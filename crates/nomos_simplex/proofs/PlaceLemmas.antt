@@ -2,7 +2,7 @@
 use Rattle.std.proofs.Common.{◌≡◌, ℕ, zero, suc, ◌<◌, ◌≤◌, Bool, true, false, cond, ap, refl, sym, subst, ◌∙◌, arith, ◌⊎◌, inl, inr, ⊎_elim, Option, Some, None}
 use Rattle.std.specs.Prelude.{nat_lt}
 use Rattle.std.proofs.lemmas.Bool.{cases_lt, ltb-true, ltb-false, false≢true}
-use Rattle.nomos_simplex.specs.Lowest.{former_of, foremost_place, lowest_place}
+use Rattle.nomos_simplex.specs.LowestVariable.{former_of, foremost_place, lowest_place}
 
 none_step : (t : Bool) (n : ℕ) (before : Option ℕ) → cond t (Some n) before ≡ None → (t ≡ false) × (before ≡ None)
 none_step true n before e = cc

@@ -16,7 +16,7 @@ use Rattle.nomos_simplex.specs.Divisors.{common, signed_like, in_lowest_terms}
 use Rattle.nomos_simplex.specs.Exchange.{coef_at, solved_for, put_into, exchanged}
 use Rattle.nomos_simplex.specs.Nearest.{distance, reach, is_less, is_nearer, line_at, nearest}
 use Rattle.nomos_simplex.specs.Tables.{bound_of, sum_at}
-use Rattle.nomos_simplex.specs.declared.table.Line.{Line}
+use Rattle.nomos_simplex.specs.declared.table.TableLine.{TableLine}
 use Rattle.nomos_simplex.specs.declared.table.Table.{Table}
 use Rattle.nomos_simplex.proofs.AmountLemmas.{NoneBelow}
 use Rattle.nomos_simplex.proofs.DivisorLemmas.{common_divides_first}
@@ -50,7 +50,7 @@ unfolding AtMost
 less f g e = omega (arith, ltb-true (f.0 * g.1) (g.0 * f.1) e)
 
 module _ (rows : RowList) (nonbasic : List ℕ) (j : ℕ) where
-  nearer_true : (x y : Line) (s t : Bool) → is_less (reach rows nonbasic j x) (reach rows nonbasic j y) ≡ s →
+  nearer_true : (x y : TableLine) (s t : Bool) → is_less (reach rows nonbasic j x) (reach rows nonbasic j y) ≡ s →
       is_less (reach rows nonbasic j y) (reach rows nonbasic j x) ≡ t →
       cond s true (cond t false (nat_lt x.basic y.basic)) ≡ true →
       AtMost (reach rows nonbasic j x) (reach rows nonbasic j y)
@@ -58,7 +58,7 @@ module _ (rows : RowList) (nonbasic : List ℕ) (j : ℕ) where
   nearer_true x y false true e f h = cc
   nearer_true x y false false e f h = not_less (reach rows nonbasic j y) (reach rows nonbasic j x) f
 
-  nearer_false : (x y : Line) (s t : Bool) → is_less (reach rows nonbasic j x) (reach rows nonbasic j y) ≡ s →
+  nearer_false : (x y : TableLine) (s t : Bool) → is_less (reach rows nonbasic j x) (reach rows nonbasic j y) ≡ s →
       cond s true (cond t false (nat_lt x.basic y.basic)) ≡ false →
       AtMost (reach rows nonbasic j y) (reach rows nonbasic j x)
   nearer_false x y true t e h = cc
@@ -84,11 +84,11 @@ nearest-at_most rows table j i e k l pass =
 
 -- ---- a line at the bounds
 -- the variable of a line is not below its bound
-abbrev pub IsNotBelow : (ℕ → ℤ) → List ℕ → Line → Type 0
+abbrev pub IsNotBelow : (ℕ → ℤ) → List ℕ → TableLine → Type 0
 IsNotBelow b vs line = (line.times *ℤ b line.basic) ≤ℤ sum_at b vs line.coefs
 
 -- where the number before the variable is below 0, the order is turned
-lowest_not_below : (b : ℕ → ℤ) (vs : List ℕ) (line : Line) → line.times <ℤ pos 0 →
+lowest_not_below : (b : ℕ → ℤ) (vs : List ℕ) (line : TableLine) → line.times <ℤ pos 0 →
     sum_at b vs line.coefs ≤ℤ (line.times *ℤ b line.basic) → IsNotBelow b vs (in_lowest_terms line)
 lowest_not_below b vs line under h =
     let g = common (unsigned_abs line.times) line.coefs in
@@ -162,12 +162,12 @@ under_product (negsuc p) (pos (suc t)) h i = below_in (negsuc p *ℤ pos (suc t)
 under_product (negsuc p) (negsuc t) h i = absurd (omega (arith, lt_out (pos 0) (negsuc t) i))
 
 -- line i is left for column j, where its coefficient is below 0
-pub record IsLowered (rows : RowList) (table : Table) (i j : ℕ) (left : Line) : Type 0 where
+pub record IsLowered (rows : RowList) (table : Table) (i j : ℕ) (left : TableLine) : Type 0 where
   pub may : MayExchange i j left table
   pub under : coef_at j left <ℤ pos 0
   pub nearest : nearest rows table j ≡ Some i
 
-module _ (rows : RowList) (table : Table) (i j : ℕ) (left : Line) (m : IsLowered rows table i j left)
+module _ (rows : RowList) (table : Table) (i j : ℕ) (left : TableLine) (m : IsLowered rows table i j left)
     (none : NoneBelow rows table) where
   left_is : line_at table.lines i ≡ left
   left_is = get_or_from_slice_get table.lines i left _ m.may.place
@@ -178,7 +178,7 @@ module _ (rows : RowList) (table : Table) (i j : ℕ) (left : Line) (m : IsLower
   left_in : IsLineIn table left
   left_in = at_place (IsLineIn table) table.lines i left m.may.place m.may.lines
 
-  line_low : (k : ℕ) (d : Line) → k < length table.lines →
+  line_low : (k : ℕ) (d : TableLine) → k < length table.lines →
       IsNotBelow (bound_of rows) (set table.nonbasic j left.basic)
       (in_lowest_terms (put_into j left (get_or table.lines k d)))
   line_low k d l =

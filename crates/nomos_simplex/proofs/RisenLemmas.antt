@@ -13,7 +13,7 @@ use Rattle.nomos_simplex.specs.Nearest.{line_at}
 use Rattle.nomos_simplex.specs.Sizes.{IsNumber, IsLine}
 use Rattle.nomos_simplex.specs.Tables.{least_or_zero, bound_of, sum_at}
 use Rattle.nomos_simplex.specs.mirror.Keeping.{over_of}
-use Rattle.nomos_simplex.specs.declared.table.Line.{Line}
+use Rattle.nomos_simplex.specs.declared.table.TableLine.{TableLine}
 use Rattle.nomos_simplex.proofs.ClassLemmas.{no_line}
 use Rattle.nomos_simplex.proofs.NumberLemmas.{bounded_size, abs_sum}
 use Rattle.nomos_simplex.proofs.SumLemmas.{sum_set, times_minus}
@@ -46,7 +46,7 @@ sum_size y (v ∷ vs) (c ∷ cs) h n =
       sum_size y vs cs h (All-tail IsNumber c cs n),
     )
 
-pub over_size : (rows : RowList) (nonbasic : List ℕ) (n : ℕ) (line : Line) → IsLine n line → n ≤ 64 →
+pub over_size : (rows : RowList) (nonbasic : List ℕ) (n : ℕ) (line : TableLine) → IsLine n line → n ≤ 64 →
     unsigned_abs (over_of rows nonbasic line) ≤ 2 ^ 114
 over_size rows nonbasic n line l few =
     let b = bound_of rows in
@@ -63,7 +63,7 @@ difference : (s t c x y m : ℤ) → s +ℤ c *ℤ y ≡ t +ℤ c *ℤ x → c *
     s -ℤ m ≡ t -ℤ m +ℤ c *ℤ (x -ℤ y)
 difference s t c x y m e f = omega (arith, ints, e, f)
 
-pub over_risen : (rows : RowList) (vs : List ℕ) (j v : ℕ) (line : Line) → j < length vs → j < length line.coefs →
+pub over_risen : (rows : RowList) (vs : List ℕ) (j v : ℕ) (line : TableLine) → j < length vs → j < length line.coefs →
     over_of rows (set vs j v) line ≡ over_of rows vs line +ℤ coef_at j line *ℤ
     (bound_of rows v -ℤ bound_of rows (get_or vs j 0))
 over_risen rows vs j v line h i =
@@ -76,7 +76,7 @@ over_risen rows vs j v line h i =
     (times_minus c (b v) (b (get_or vs j 0)))
 
 -- and of all lines
-pub overs_risen : (rows : RowList) (vs : List ℕ) (j v : ℕ) (lines : List Line) (over after : List ℤ) (rise : ℤ) →
+pub overs_risen : (rows : RowList) (vs : List ℕ) (j v : ℕ) (lines : List TableLine) (over after : List ℤ) (rise : ℤ) →
     j < length vs → All (λ line. j < length line.coefs) lines → over ≡ map (over_of rows vs) lines →
     length after ≡ length over → rise ≡ bound_of rows v -ℤ bound_of rows (get_or vs j 0) →
     ((i : ℕ) → i < length over → get_or after i (pos 0) ≡ get_or over i (pos 0) +ℤ coef_at j (line_at lines i) *ℤ rise)

@@ -12,23 +12,23 @@ use Rattle.nomos_forms.specs.declared.found.Found.{Found}
 use Rattle.nomos_forms.specs.declared.row_list.RowList.{RowList}
 use Rattle.nomos_forms.specs.declared.verdict.Verdict.{Verdict}
 use Rattle.nomos_simplex.specs.Exchange.{exchanged, is_large_table}
-use Rattle.nomos_simplex.specs.Lowest.{is_below, leaving, entering}
+use Rattle.nomos_simplex.specs.LowestVariable.{is_below, leaving, entering}
 use Rattle.nomos_simplex.specs.PivotRun.{turn_to, turn_at, turn_on, turn_from, turn, end_of, run, answer_to}
 use Rattle.nomos_simplex.specs.Tables.{first_table}
 use Rattle.nomos_simplex.specs.declared.solved.Solved.TheVariants as solved
 use Rattle.nomos_simplex.specs.declared.solved.Solved.{Solved}
 use Rattle.nomos_simplex.specs.declared.solved.Stop.TheVariants as stop
-use Rattle.nomos_simplex.specs.declared.table.Line.{Line}
+use Rattle.nomos_simplex.specs.declared.table.TableLine.{TableLine}
 use Rattle.nomos_simplex.specs.declared.table.Table.{Table}
-use Rattle.nomos_simplex.specs.declared.turn.Turn.TheVariants.{Ends, Goes}
-use Rattle.nomos_simplex.specs.declared.turn.Turn.{Turn}
+use Rattle.nomos_simplex.specs.declared.turn.PivotTurn.TheVariants.{Ends, Goes}
+use Rattle.nomos_simplex.specs.declared.turn.PivotTurn.{PivotTurn}
 use Rattle.nomos_simplex.proofs.ExchangedLemmas.{MayExchange}
 use Rattle.nomos_simplex.proofs.ExitLemmas.{IsRightFor, found_exit, verdict_exit}
 use Rattle.nomos_simplex.proofs.PlaceLemmas.{place_passes}
 use Rattle.nomos_simplex.proofs.TableLaws.{IsTableOfRows, first-is_table, exchanged-is_table}
 
 -- a turn ends by a right answer, or goes on at a table of the rows
-abbrev pub IsRightTurn : RowList → Turn → Type 0
+abbrev pub IsRightTurn : RowList → PivotTurn → Type 0
 IsRightTurn rows (Ends answer) = IsRightFor rows answer
 IsRightTurn rows (Goes table) = IsTableOfRows rows table
 
@@ -42,14 +42,14 @@ goes_or_large rows pivots table false e h = h e
 not_zero_positive : (c : ℤ) → int_lt (pos 0) c ≡ true → ¬ (c ≡ pos 0)
 not_zero_positive c h e = omega (arith, ints, lt-true (pos 0) c h)
 
-right_to : (budget pivots : ℕ) (rows : RowList) (i : ℕ) (line : Line) (table : Table) (j : ℕ) →
+right_to : (budget pivots : ℕ) (rows : RowList) (i : ℕ) (line : TableLine) (table : Table) (j : ℕ) →
     IsTableOfRows rows table → MayExchange i j line table → IsRightTurn rows (turn_to budget pivots i line table j)
 right_to zero pivots rows i line table j t m = tt
 right_to (suc budget) pivots rows i line table j t m =
     goes_or_large rows (pivots + 1) (exchanged i j line table) (is_large_table (exchanged i j line table)) refl
     (λ small. exchanged-is_table rows i j line table m small t)
 
-right_at : (budget pivots : ℕ) (rows : RowList) (table : Table) (i : ℕ) (line : Line) (o : Option ℕ) →
+right_at : (budget pivots : ℕ) (rows : RowList) (table : Table) (i : ℕ) (line : TableLine) (o : Option ℕ) →
     IsTableOfRows rows table → slice_get table.lines i ≡ Some line → is_below rows table.nonbasic line ≡ true →
     entering table line ≡ o → IsRightTurn rows (turn_at budget pivots rows table i line o)
 right_at budget pivots rows table i line None t p b e =
@@ -67,16 +67,17 @@ right_at budget pivots rows table i line (Some j) t p b e =
           t.lines;
     })
 
-right_on : (budget pivots : ℕ) (rows : RowList) (table : Table) (i : ℕ) (o : Option Line) → IsTableOfRows rows table →
+right_on : (budget pivots : ℕ) (rows : RowList) (table : Table) (i : ℕ) (o : Option TableLine)
+    → IsTableOfRows rows table →
     leaving rows table ≡ Some i → slice_get table.lines i ≡ o → IsRightTurn rows (turn_on budget pivots rows table i o)
 right_on budget pivots rows table i None t e g =
     let both =
     place_passes (λ i. get_or (map (is_below rows table.nonbasic) table.lines) i false)
     (λ i. get_or (map (λ line. line.basic) table.lines) i 0) (length table.lines) i e in
-    let d : Line = record { times = pos 1; basic = 0; coefs = [] } in
+    let d : TableLine = record { times = pos 1; basic = 0; coefs = [] } in
     absurd (no_line (get_or table.lines i d) (sym (slice_get-get_or table.lines i d both.0) ∙ g))
   where
-    no_line : (line : Line) → Some line ≡ None → ⊥
+    no_line : (line : TableLine) → Some line ≡ None → ⊥
     no_line line e = cc
 right_on budget pivots rows table i (Some line) t e g =
     let both =
@@ -104,7 +105,7 @@ pub turn-goes_on : (budget pivots : ℕ) (rows : RowList) (table after : Table) 
 turn-goes_on budget pivots rows table after t e = subst (IsRightTurn rows) e (turn-is_right budget pivots rows table t)
 
 -- ---- the run
-end_right : (rows : RowList) (turn : Turn) (go_on : Table → Solved) → IsRightTurn rows turn →
+end_right : (rows : RowList) (turn : PivotTurn) (go_on : Table → Solved) → IsRightTurn rows turn →
     ((table : Table) → IsTableOfRows rows table → IsRightFor rows (go_on table)) → IsRightFor rows (end_of turn go_on)
 end_right rows (Ends answer) go_on h after = h
 end_right rows (Goes table) go_on h after = after table h

@@ -8,18 +8,18 @@ use Rattle.std.proofs.lemmas.Option.{slice_get-get_or}
 use Rattle.nomos_simplex.specs.Exchange.{exchanged, is_large_table}
 use Rattle.nomos_simplex.specs.Exits.{fractions, found_or_large, verdict_of}
 use Rattle.nomos_simplex.specs.mirror.Steps.{IsNotFound}
-use Rattle.nomos_simplex.specs.Lowest.{leaving, entering}
+use Rattle.nomos_simplex.specs.LowestVariable.{leaving, entering}
 use Rattle.nomos_simplex.specs.PivotRun.{turn, turn_from, turn_on, turn_at, turn_to, small_or_large, end_of, run}
 use Rattle.nomos_simplex.specs.Tables.{lines_from}
 use Rattle.nomos_simplex.specs.declared.solved.Solved.{Solved}
 use Rattle.nomos_simplex.specs.declared.solved.Solved.TheVariants as solved
 use Rattle.nomos_simplex.specs.declared.solved.Stop.TheVariants as stop
-use Rattle.nomos_simplex.specs.declared.table.Line.{Line}
+use Rattle.nomos_simplex.specs.declared.table.TableLine.{TableLine}
 use Rattle.nomos_simplex.specs.declared.table.Table.{Table}
-use Rattle.nomos_simplex.specs.declared.turn.Turn.TheVariants.{Ends, Goes}
+use Rattle.nomos_simplex.specs.declared.turn.PivotTurn.TheVariants.{Ends, Goes}
 
 -- ---- a turn that exchanges
-pub exchanges : (budget pivots left i j : ℕ) (rows : RowList) (table after : Table) (line : Line) →
+pub exchanges : (budget pivots left i j : ℕ) (rows : RowList) (table after : Table) (line : TableLine) →
     budget ≡ suc left → leaving rows table ≡ Some i → slice_get table.lines i ≡ Some line →
     entering table line ≡ Some j → after ≡ exchanged i j line table → turn budget pivots rows table ≡ small_or_large
     (pivots + 1) after
@@ -69,7 +69,7 @@ run_stands budget pivots rows table e =
     sym (run_ends budget pivots rows table (found_or_large pivots (fractions rows table))
     (sym (ap (turn_from budget pivots rows table) e)))
 
-not_found_to : (budget pivots i j : ℕ) (line : Line) (table : Table) (answer : Solved) →
+not_found_to : (budget pivots i j : ℕ) (line : TableLine) (table : Table) (answer : Solved) →
     turn_to budget pivots i line table j ≡ Ends answer → IsNotFound answer
 not_found_to zero pivots i j line table answer e =
     let is : solved.Unsolved stop.Pivots ≡ answer = cc in subst IsNotFound is tt
@@ -82,7 +82,8 @@ not_found_to (suc budget) pivots i j line table answer e =
     of_test true h = let is : solved.Unsolved (stop.Large (pivots + 1)) ≡ answer = cc in subst IsNotFound is tt
     of_test false h = cc
 
-not_found_at : (budget pivots i : ℕ) (rows : RowList) (table : Table) (line : Line) (o : Option ℕ) (answer : Solved) →
+not_found_at : (budget pivots i : ℕ) (rows : RowList) (table : Table) (line : TableLine) (o : Option ℕ)
+    (answer : Solved) →
     turn_at budget pivots rows table i line o ≡ Ends answer → IsNotFound answer
 not_found_at budget pivots i rows table line None answer e =
     let is : solved.Refuted (verdict_of rows table line) ≡ answer = cc in subst IsNotFound is tt
@@ -94,7 +95,7 @@ pub not_found : (budget pivots i : ℕ) (rows : RowList) (table : Table) (answer
     leaving rows table ≡ Some i → i < length table.lines → turn budget pivots rows table ≡ Ends answer →
     IsNotFound answer
 not_found budget pivots i rows table answer e h t =
-    let d : Line = record { times = pos 1; basic = 0; coefs = [] } in
+    let d : TableLine = record { times = pos 1; basic = 0; coefs = [] } in
     let line = get_or table.lines i d in
     not_found_at budget pivots i rows table line (entering table line) answer
     (sym (ap (turn_on budget pivots rows table i) (slice_get-get_or table.lines i d h))
@@ -117,12 +118,12 @@ pub lines_more : (v : ℕ) (rows : List Row) (k : ℕ) (d : Row) → k < length 
 lines_more v [] k d h = absurd (omega arith)
 lines_more v (row ∷ rows) zero d h =
     let same : v ≡ v + zero = omega arith in
-    let line : ℕ → Line = λ b. record { times = pos 1; basic = b; coefs = row.coefs } in
+    let line : ℕ → TableLine = λ b. record { times = pos 1; basic = b; coefs = row.coefs } in
     ap (λ b. line b ∷ []) same
 lines_more v (row ∷ rows) (suc k) d h =
-    let first : Line = record { times = pos 1; basic = v; coefs = row.coefs } in
+    let first : TableLine = record { times = pos 1; basic = v; coefs = row.coefs } in
     let same : v + 1 + k ≡ v + suc k = omega arith in
-    let last : ℕ → Line = λ b. record { times = pos 1; basic = b; coefs = (get_or rows k d).coefs } in
+    let last : ℕ → TableLine = λ b. record { times = pos 1; basic = b; coefs = (get_or rows k d).coefs } in
     rw add-one (ap (λ ls. first ∷ ls) (ap (λ m. lines_from (v + 1) (take m rows)) (sym (add-one k))
     ∙ lines_more (v + 1) rows k d (omega arith)) ∙ ap (λ b. (first ∷ lines_from (v + 1) (take k rows)) ++ last b ∷
     []) same)

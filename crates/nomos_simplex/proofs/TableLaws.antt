@@ -12,7 +12,7 @@ use Rattle.nomos_forms.specs.declared.row_list.RowList.{RowList}
 use Rattle.nomos_simplex.specs.Exchange.{exchanged, is_large, is_large_line, is_large_table}
 use Rattle.nomos_simplex.specs.Sizes.{IsLowest, IsTable}
 use Rattle.nomos_simplex.specs.Tables.{Holds, lines_from, first_table}
-use Rattle.nomos_simplex.specs.declared.table.Line.{Line}
+use Rattle.nomos_simplex.specs.declared.table.TableLine.{TableLine}
 use Rattle.nomos_simplex.specs.declared.table.Table.{Table}
 use Rattle.nomos_simplex.proofs.AmountLemmas.{AreOverZero}
 use Rattle.nomos_simplex.proofs.DivisorLemmas.{common_one}
@@ -36,11 +36,11 @@ pub all_true : {X : Type 0} (p : X → Bool) (xs : List X) → list_all p xs ≡
 all_true p xs h k d l = ⊎_elim (λ yes. yes) (λ no. absurd (false≢true (sym (list_all_at p xs k d l no) ∙ h)))
     (cases_Bool (p (get_or xs k d)))
 
-pub record IsSmallLine (line : Line) : Type 0 where
+pub record IsSmallLine (line : TableLine) : Type 0 where
   pub times : unsigned_abs line.times < 2 ^ 62
   pub coefs : All (λ c. unsigned_abs c < 2 ^ 62) line.coefs
 
-pub small_line : (line : Line) → is_large_line line ≡ false → IsSmallLine line
+pub small_line : (line : TableLine) → is_large_line line ≡ false → IsSmallLine line
 small_line line h =
     let both = or_parts (is_large line.times) (list_any is_large line.coefs) h in
     record {
@@ -88,7 +88,7 @@ first-is_table rows = record {
   small = first_small rows;
 }
 
-pub exchanged-is_table : (rows : RowList) (i j : ℕ) (left : Line) (table : Table) → MayExchange i j left table →
+pub exchanged-is_table : (rows : RowList) (i j : ℕ) (left : TableLine) (table : Table) → MayExchange i j left table →
     is_large_table (exchanged i j left table) ≡ false → IsTableOfRows rows table →
     IsTableOfRows rows (exchanged i j left table)
 exchanged-is_table rows i j left table m s t = record {

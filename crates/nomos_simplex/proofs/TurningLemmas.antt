@@ -10,7 +10,7 @@ use Rattle.nomos_simplex.specs.Sizes.{IsVariable, IsTable}
 use Rattle.nomos_simplex.specs.mirror.Classes.{IsIn, IsReached, IsKept, Fit, StandsFor, SameNumbers, AreRenamed, class_at, column_at, stepped, classes_exchanged}
 use Rattle.nomos_simplex.specs.declared.classes.Classed.{Classed}
 use Rattle.nomos_simplex.specs.declared.classes.Classes.{Classes}
-use Rattle.nomos_simplex.specs.declared.table.Line.{Line}
+use Rattle.nomos_simplex.specs.declared.table.TableLine.{TableLine}
 use Rattle.nomos_simplex.specs.declared.table.Table.{Table}
 use Rattle.nomos_simplex.proofs.ClassExchangeLemmas.{exchange-stands}
 use Rattle.nomos_simplex.proofs.ClassLemmas.{no_class, in_class-is_variable, column_class, next-in}
@@ -31,7 +31,7 @@ kept-is_table rows classed k =
     small-is_table rows classed.kept.table classed.classes k.full (reached rows k.full k.reached) k.shows.stands
 
 -- ---- an exchange in it
-pub may_exchange : (rows : RowList) (i j : ℕ) (left : Line) (table : Table) → IsTable rows table →
+pub may_exchange : (rows : RowList) (i j : ℕ) (left : TableLine) (table : Table) → IsTable rows table →
     slice_get table.lines i ≡ Some left → j < length table.nonbasic → ¬ (coef_at j left ≡ pos 0) →
     MayExchange i j left table
 may_exchange rows i j left table t at l n = record {
@@ -42,7 +42,7 @@ may_exchange rows i j left table t at l n = record {
 }
 
 -- it is a table again, where no number is too large
-pub exchanged-is_small_table : (rows : RowList) (i j : ℕ) (left : Line) (table : Table) → IsTable rows table →
+pub exchanged-is_small_table : (rows : RowList) (i j : ℕ) (left : TableLine) (table : Table) → IsTable rows table →
     MayExchange i j left table → is_large_table (exchanged i j left table) ≡ false →
     IsTable rows (exchanged i j left table)
 exchanged-is_small_table rows i j left table t m s =
@@ -126,7 +126,7 @@ module _ (rows : RowList) (table made : Table) (classes : Classes) (e : made.non
   }
 
 -- ---- the full table is exchanged, too
-module _ (rows : RowList) (i k j : ℕ) (left : Line) (table : Table) (classes : Classes) (full : Table)
+module _ (rows : RowList) (i k j : ℕ) (left : TableLine) (table : Table) (classes : Classes) (full : Table)
     (of_rows : IsTableOfRows rows full) (stands : StandsFor rows table classes full)
     (at : slice_get full.lines k ≡ Some left) (own : slice_get table.lines i ≡ Some left)
     (column : j < length table.nonbasic) (not_zero : ¬ (coef_at j left ≡ pos 0)) where

@@ -10,7 +10,7 @@ use Rattle.nomos_forms.specs.declared.row_list.RowList.{RowList}
 use Rattle.nomos_simplex.specs.Exchange.{exchanged, is_large_table}
 use Rattle.nomos_simplex.specs.Exits.{common_denominator, amounts_over, fractions, found_or_large}
 use Rattle.nomos_simplex.specs.LeastRun.{LeastRun, is_total, least_or_large}
-use Rattle.nomos_simplex.specs.Lowest.{leaving, entering}
+use Rattle.nomos_simplex.specs.LowestVariable.{leaving, entering}
 use Rattle.nomos_simplex.specs.PivotRun.{turn_to, turn_at, turn_on, turn_from, turn, end_of, run, answer_to}
 use Rattle.nomos_simplex.specs.Tables.{first_table}
 use Rattle.nomos_simplex.specs.declared.solved.Proof.{Proof}
@@ -19,10 +19,10 @@ use Rattle.nomos_simplex.specs.declared.solved.Solved.{Solved}
 use Rattle.nomos_simplex.specs.declared.solved.SolvedLeast.TheVariants as least
 use Rattle.nomos_simplex.specs.declared.solved.SolvedLeast.{SolvedLeast}
 use Rattle.nomos_simplex.specs.declared.solved.Stop.TheVariants as stop
-use Rattle.nomos_simplex.specs.declared.table.Line.{Line}
+use Rattle.nomos_simplex.specs.declared.table.TableLine.{TableLine}
 use Rattle.nomos_simplex.specs.declared.table.Table.{Table}
-use Rattle.nomos_simplex.specs.declared.turn.Turn.TheVariants.{Ends, Goes}
-use Rattle.nomos_simplex.specs.declared.turn.Turn.{Turn}
+use Rattle.nomos_simplex.specs.declared.turn.PivotTurn.TheVariants.{Ends, Goes}
+use Rattle.nomos_simplex.specs.declared.turn.PivotTurn.{PivotTurn}
 
 -- amounts that are answered have a unit that is not too large
 abbrev HasSmallUnit : Solved → Type 0
@@ -30,7 +30,7 @@ HasSmallUnit (solved.Found f) = f.unit ≤ 2 ^ 31
 HasSmallUnit (solved.Refuted v) = Unit {0}
 HasSmallUnit (solved.Unsolved s) = Unit {0}
 
-abbrev EndsWithSmallUnit : Turn → Type 0
+abbrev EndsWithSmallUnit : PivotTurn → Type 0
 EndsWithSmallUnit (Ends answer) = HasSmallUnit answer
 EndsWithSmallUnit (Goes table) = Unit {0}
 
@@ -52,18 +52,18 @@ size_small : (pivots : ℕ) (table : Table) (large : Bool) →
 size_small pivots table true = tt
 size_small pivots table false = tt
 
-to_small : (budget pivots i : ℕ) (line : Line) (table : Table) (j : ℕ) →
+to_small : (budget pivots i : ℕ) (line : TableLine) (table : Table) (j : ℕ) →
     EndsWithSmallUnit (turn_to budget pivots i line table j)
 to_small zero pivots i line table j = tt
 to_small (suc budget) pivots i line table j =
     size_small (pivots + 1) (exchanged i j line table) (is_large_table (exchanged i j line table))
 
-at_small : (budget pivots : ℕ) (rows : RowList) (table : Table) (i : ℕ) (line : Line) (o : Option ℕ) →
+at_small : (budget pivots : ℕ) (rows : RowList) (table : Table) (i : ℕ) (line : TableLine) (o : Option ℕ) →
     EndsWithSmallUnit (turn_at budget pivots rows table i line o)
 at_small budget pivots rows table i line None = tt
 at_small budget pivots rows table i line (Some j) = to_small budget pivots i line table j
 
-on_small : (budget pivots : ℕ) (rows : RowList) (table : Table) (i : ℕ) (o : Option Line) →
+on_small : (budget pivots : ℕ) (rows : RowList) (table : Table) (i : ℕ) (o : Option TableLine) →
     EndsWithSmallUnit (turn_on budget pivots rows table i o)
 on_small budget pivots rows table i None = found_small pivots (fractions rows table)
 on_small budget pivots rows table i (Some line) = at_small budget pivots rows table i line (entering table line)
@@ -73,7 +73,7 @@ from_small : (budget pivots : ℕ) (rows : RowList) (table : Table) (o : Option 
 from_small budget pivots rows table None = found_small pivots (fractions rows table)
 from_small budget pivots rows table (Some i) = on_small budget pivots rows table i (slice_get table.lines i)
 
-end_small : (t : Turn) (go_on : Table → Solved) → EndsWithSmallUnit t →
+end_small : (t : PivotTurn) (go_on : Table → Solved) → EndsWithSmallUnit t →
     ((table : Table) → HasSmallUnit (go_on table)) → HasSmallUnit (end_of t go_on)
 end_small (Ends answer) go_on h after = h
 end_small (Goes table) go_on h after = after table
@@ -103,7 +103,7 @@ total_small : (pivots : ℕ) (f : Found) (proof : Proof) (total : Bool) → f.un
 total_small pivots f proof true small = small
 total_small pivots f proof false small = tt
 
-end_least_small : (pivots : ℕ) (rows : RowList) (goal : Form) (table : Table) (line : Line) (answer : Solved) →
+end_least_small : (pivots : ℕ) (rows : RowList) (goal : Form) (table : Table) (line : TableLine) (answer : Solved) →
     HasSmallUnit answer → HasSmallLeastUnit (least_or_large pivots rows goal table line answer)
 end_least_small pivots rows goal table line (solved.Found f) small =
     total_small pivots f _ (is_total (form_value f.stars f.unit goal)) small

@@ -11,7 +11,7 @@ use Rattle.nomos_simplex.specs.Divisors.{in_lowest_terms}
 use Rattle.nomos_simplex.specs.Exchange.{solved_for, put_into, exchanged}
 use Rattle.nomos_simplex.specs.Sizes.{IsVariable}
 use Rattle.nomos_simplex.specs.Tables.{lines_from, first_table}
-use Rattle.nomos_simplex.specs.declared.table.Line.{Line}
+use Rattle.nomos_simplex.specs.declared.table.TableLine.{TableLine}
 use Rattle.nomos_simplex.specs.declared.table.Table.{Table}
 use Rattle.nomos_simplex.proofs.CountLemmas.{sum_by-map, counted}
 use Rattle.nomos_simplex.proofs.ExchangedLemmas.{MayExchange}
@@ -20,7 +20,7 @@ use Rattle.nomos_simplex.proofs.ExchangedLemmas.{MayExchange}
 abbrev pub nonbasic_times : ℕ → List ℕ → ℕ
 nonbasic_times v vs = count_by (λ w. w == v) vs
 
-abbrev pub basic_times : ℕ → List Line → ℕ
+abbrev pub basic_times : ℕ → List TableLine → ℕ
 basic_times v lines = count_by (λ line. line.basic == v) lines
 
 -- a count of v is 1 within a range, and 0 outside of it
@@ -142,12 +142,12 @@ first-has_each_once rows = record {
 same_counts : (a b c d e f x y : ℕ) → a + x ≡ b + y → c + y ≡ d → e ≡ c + x → a + e ≡ b + d
 same_counts a b c d e f x y h i j = omega arith
 
-pub exchanged_times : (v i j : ℕ) (left : Line) (table : Table) → MayExchange i j left table →
+pub exchanged_times : (v i j : ℕ) (left : TableLine) (table : Table) → MayExchange i j left table →
     nonbasic_times v (exchanged i j left table).nonbasic + basic_times v
     (exchanged i j left table).lines ≡ nonbasic_times v table.nonbasic + basic_times v table.lines
 exchanged_times v i j left table m =
     let f = λ (w : ℕ). cond (w == v) 1 0 in
-    let g = λ (line : Line). cond (line.basic == v) 1 0 in
+    let g = λ (line : TableLine). cond (line.basic == v) 1 0 in
     let e = get_or table.nonbasic j 0 in
     let here = get_or_from_slice_get table.lines i left left m.place in
     same_counts (nonbasic_times v (set table.nonbasic j left.basic)) (nonbasic_times v table.nonbasic)
@@ -160,7 +160,8 @@ exchanged_times v i j left table m =
     (in_lowest_terms (solved_for j e left))
     ∙ ap (λ n. n + f e) (sum_by-map g (λ line. in_lowest_terms (put_into j left line)) (remove table.lines i)))
 
-pub exchanged-has_each_once : (rows : RowList) (i j : ℕ) (left : Line) (table : Table) → MayExchange i j left table →
+pub exchanged-has_each_once : (rows : RowList) (i j : ℕ) (left : TableLine) (table : Table) → MayExchange i j left table
+    →
     HasEachOnce rows table → HasEachOnce rows (exchanged i j left table)
 exchanged-has_each_once rows i j left table m h = record {
   once = λ v. subst (λ n. n ≤ 1) (sym (exchanged_times v i j left table m)) (h.once v);
@@ -174,7 +175,7 @@ none_found : (t : Bool) (x r : ℕ) → x ≡ cond t 1 0 + r → x ≡ 0 → (t 
 none_found true x r e h = absurd (omega arith)
 none_found false x r e h = (refl, omega arith)
 
-pub not_found : (v : ℕ) (lines : List Line) → basic_times v lines ≡ 0 → find (λ line. line.basic == v) lines ≡ None
+pub not_found : (v : ℕ) (lines : List TableLine) → basic_times v lines ≡ 0 → find (λ line. line.basic == v) lines ≡ None
 not_found v [] h = refl
 not_found v (line ∷ lines) h =
     let both =
@@ -182,7 +183,7 @@ not_found v (line ∷ lines) h =
     (sum_by-cons (λ line. cond (line.basic == v) 1 0) line lines) h in
     ap (λ b. cond b (Some line) (find (λ line. line.basic == v) lines)) both.0 ∙ not_found v lines both.1
 
-found_here : (v : ℕ) (x : Line) (lines : List Line) (k : ℕ) (d : Line) (t : Bool) → t ≡ (x.basic == v) →
+found_here : (v : ℕ) (x : TableLine) (lines : List TableLine) (k : ℕ) (d : TableLine) (t : Bool) → t ≡ (x.basic == v) →
     k < length (x ∷ lines) → (get_or (x ∷ lines) k d).basic ≡ v →
     basic_times v (x ∷ lines) ≡ cond t 1 0 + basic_times v lines → basic_times v (x ∷ lines) ≤ 1 →
     ((k' : ℕ) → suc k' ≡ k → find (λ line. line.basic == v) lines ≡ Some (get_or lines k' d)) →
@@ -197,7 +198,7 @@ found_here v x lines zero d false e h at c once rest = absurd (no_false (e ∙ e
     no_false e = cc
 found_here v x lines (suc k) d false e h at c once rest = rest k refl
 
-pub finds : (v : ℕ) (lines : List Line) (k : ℕ) (d : Line) → k < length lines → (get_or lines k d).basic ≡ v →
+pub finds : (v : ℕ) (lines : List TableLine) (k : ℕ) (d : TableLine) → k < length lines → (get_or lines k d).basic ≡ v →
     basic_times v lines ≤ 1 → find (λ line. line.basic == v) lines ≡ Some (get_or lines k d)
 finds v [] k d h at once = absurd (omega arith)
 finds v (x ∷ lines) k d h at once =
@@ -221,12 +222,12 @@ basic-is_variable rows table h k d l =
     (h.least v (omega arith), h.most v (omega arith))
 
 -- a variable without a line is basic no time
-found_no : (t : Bool) (x : Line) (o : Option Line) (n r : ℕ) → cond t (Some x) o ≡ None → n ≡ cond t 1 0 + r →
+found_no : (t : Bool) (x : TableLine) (o : Option TableLine) (n r : ℕ) → cond t (Some x) o ≡ None → n ≡ cond t 1 0 + r →
     (o ≡ None → r ≡ 0) → n ≡ 0
 found_no true x o n r e c h = cc
 found_no false x o n r e c h = omega (arith, h e)
 
-pub not_basic : (v : ℕ) (lines : List Line) → find (λ line. line.basic == v) lines ≡ None → basic_times v lines ≡ 0
+pub not_basic : (v : ℕ) (lines : List TableLine) → find (λ line. line.basic == v) lines ≡ None → basic_times v lines ≡ 0
 not_basic v [] e = refl
 not_basic v (line ∷ lines) e =
     found_no (line.basic == v) line (find (λ line. line.basic == v) lines) (basic_times v (line ∷ lines))

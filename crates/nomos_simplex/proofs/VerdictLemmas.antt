@@ -17,7 +17,7 @@ use Rattle.nomos_forms.specs.declared.verdict.Weight.{Weight}
 use Rattle.nomos_forms.proofs.WholeLaws.{neg_times}
 use Rattle.nomos_simplex.specs.Exits.{with_weight, weights_below, row_or_star, of_variable, weight_of}
 use Rattle.nomos_simplex.specs.Tables.{least_or_zero, bound_of, sum_at, HoldsAt, Holds, first_table}
-use Rattle.nomos_simplex.specs.declared.table.Line.{Line}
+use Rattle.nomos_simplex.specs.declared.table.TableLine.{TableLine}
 use Rattle.nomos_simplex.proofs.FirstLemmas.{All-lines_from}
 use Rattle.nomos_simplex.proofs.SignLemmas.{abs_over, one_times}
 
@@ -172,7 +172,7 @@ minus_is : (a b c d : ℤ) → a ≡ c → b ≡ neg_ℤ d → a +ℤ b ≡ c -�
 minus_is a b c d h i = omega (arith, ints)
 
 -- all weights together: times the basic variable, less the sum
-pub weighted_line : (rows : RowList) (part : Of → ℤ) (vs : List ℕ) (line : Line) → pos 0 <ℤ line.times →
+pub weighted_line : (rows : RowList) (part : Of → ℤ) (vs : List ℕ) (line : TableLine) → pos 0 <ℤ line.times →
     All (λ c. c ≤ℤ pos 0) line.coefs →
     weighted part
     (map (weight_of rows)

@@ -1,6 +1,6 @@
 -- Greatest common divisors, and lowest terms.
 use Rattle.std.specs.Prelude.{ℕ, zero, suc, ◌%◌, ◌*◌, ◌/◌, ℤ, pos, neg_ℤ, unsigned_abs, int_div, int_lt, List, [], ◌∷◌, map, if◌then◌else◌}
-use Rattle.nomos_simplex.specs.declared.table.Line.{Line}
+use Rattle.nomos_simplex.specs.declared.table.TableLine.{TableLine}
 
 -- Euclid's steps, as many as the first number says
 unfoldable pub euclid : ℕ → ℕ → ℕ → ℕ
@@ -26,9 +26,9 @@ abbrev pub signed_like : ℤ → ℕ → ℤ
 signed_like z g = if int_lt z (pos 0) then neg_ℤ (pos g) else pos g
 
 -- all numbers of a line divided by one
-abbrev pub divided_by : ℤ → Line → Line
+abbrev pub divided_by : ℤ → TableLine → TableLine
 divided_by d line = record line { times = int_div line.times d; coefs = map (λ c. int_div c d) line.coefs }
 
 -- divided by the greatest common divisor of its numbers, so that the number before its basic variable is over 0
-abbrev pub in_lowest_terms : Line → Line
+abbrev pub in_lowest_terms : TableLine → TableLine
 in_lowest_terms line = divided_by (signed_like line.times (common (unsigned_abs line.times) line.coefs)) line

@@ -13,11 +13,11 @@ use Rattle.nomos_simplex.specs.Tables.{bound_of, sum_at}
 use Rattle.nomos_simplex.specs.declared.solved.Solved.{Solved}
 use Rattle.nomos_simplex.specs.declared.solved.Solved.TheVariants as solved
 use Rattle.nomos_simplex.specs.declared.solved.Stop.TheVariants as stop
-use Rattle.nomos_simplex.specs.declared.table.Line.{Line}
+use Rattle.nomos_simplex.specs.declared.table.TableLine.{TableLine}
 use Rattle.nomos_simplex.specs.declared.table.Table.{Table}
 
 -- what a star is, as a fraction that is not below 0: from its line, or 0 where it is nonbasic
-abbrev pub fraction_in : RowList → List ℕ → Option Line → ℕ × ℕ
+abbrev pub fraction_in : RowList → List ℕ → Option TableLine → ℕ × ℕ
 fraction_in rows nonbasic (Some line) =
     (unsigned_abs (sum_at (bound_of rows) nonbasic line.coefs), unsigned_abs line.times)
 fraction_in rows nonbasic None = (0, 1)
@@ -83,7 +83,7 @@ abbrev pub weight_of : RowList → ℕ × ℕ → Weight
 weight_of rows w = record { times = w.1; of = of_variable rows w.0 }
 
 -- what a line says whose variable is below its bound, and that has no coefficient over 0
-abbrev pub verdict_of : RowList → Table → Line → Verdict
+abbrev pub verdict_of : RowList → Table → TableLine → Verdict
 verdict_of rows table line = record {
   weights =
       map (weight_of rows)

@@ -3,7 +3,7 @@ use Rattle.std.specs.Prelude.{◌+◌, ◌/◌, ℕ, ◌==◌, ℤ, pos, ◌+ℤ
 use Rattle.nomos_forms.specs.declared.form.Form.{Form}
 use Rattle.nomos_simplex.specs.Divisors.{gcd, in_lowest_terms}
 use Rattle.nomos_simplex.specs.Exchange.{is_large_line}
-use Rattle.nomos_simplex.specs.declared.table.Line.{Line}
+use Rattle.nomos_simplex.specs.declared.table.TableLine.{TableLine}
 use Rattle.nomos_simplex.specs.declared.table.Table.{Table}
 
 -- how often a goes into the least common multiple of a and b
@@ -17,7 +17,7 @@ combined p q (a ∷ as') [] = []
 combined p q (a ∷ as') (c ∷ cs) = (p *ℤ a +ℤ q *ℤ c) ∷ combined p q as' cs
 
 -- n times what the line of a star says added to a line, over the least common multiple of the numbers before the two
-abbrev pub with_added : ℤ → Line → Line → Line
+abbrev pub with_added : ℤ → TableLine → TableLine → TableLine
 with_added n star line = record line {
   times = times_to_common line.times star.times *ℤ line.times;
   coefs =
@@ -26,7 +26,7 @@ with_added n star line = record line {
 }
 
 -- a nonbasic variable is once itself
-abbrev pub itself : List ℕ → ℕ → Line
+abbrev pub itself : List ℕ → ℕ → TableLine
 itself nonbasic v = record {
   times = pos 1;
   basic = v;
@@ -34,28 +34,28 @@ itself nonbasic v = record {
 }
 
 -- the line of a star, if it is basic, and otherwise the star itself
-abbrev pub line_or_itself : List ℕ → ℕ → Option Line → Line
+abbrev pub line_or_itself : List ℕ → ℕ → Option TableLine → TableLine
 line_or_itself nonbasic star (Some line) = line
 line_or_itself nonbasic star None = itself nonbasic star
 
-abbrev pub line_of : Table → ℕ → Line
+abbrev pub line_of : Table → ℕ → TableLine
 line_of table star = line_or_itself table.nonbasic star (find (λ line. line.basic == star) table.lines)
 
 -- nothing as yet; the goal has the number 0, since it is no variable
-abbrev pub no_goal : Table → Line
+abbrev pub no_goal : Table → TableLine
 no_goal table = record { times = pos 1; basic = 0; coefs = replicate (length table.nonbasic) (pos 0) }
 
 -- a line goes on where none of its numbers is too large
-abbrev pub if_small : Line → (Line → Option Line) → Option Line
+abbrev pub if_small : TableLine → (TableLine → Option TableLine) → Option TableLine
 if_small line go_on = if is_large_line line then None else go_on line
 
 -- the coefficients of the stars from a star on are added one by one, each time in lowest terms and with a look at how
 -- large the numbers are
-abbrev pub goal_from : Table → ℕ → List ℤ → Line → Option Line
+abbrev pub goal_from : Table → ℕ → List ℤ → TableLine → Option TableLine
 goal_from table star [] line = Some line
 goal_from table star (c ∷ cs) line =
     if_small (in_lowest_terms (with_added c (line_of table star) line)) (goal_from table (star + 1) cs)
 
 -- the line of a goal, where no number is too large
-abbrev pub goal_line : Table → Form → Option Line
+abbrev pub goal_line : Table → Form → Option TableLine
 goal_line table goal = goal_from table 1 goal.coefs (no_goal table)

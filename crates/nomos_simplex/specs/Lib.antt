@@ -3,7 +3,7 @@ pub mod Exchange
 pub mod Exits
 pub mod GoalLine
 pub mod LeastRun
-pub mod Lowest
+pub mod LowestVariable
 pub mod Nearest
 pub mod PivotExample
 pub mod PivotRun

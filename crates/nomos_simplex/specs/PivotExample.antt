@@ -3,8 +3,8 @@ use Rattle.std.specs.Prelude.{◌≡◌, pos, negsuc, [], ◌∷◌, Some}
 use Rattle.std.proofs.Common.{refl}
 use Rattle.nomos_simplex.specs.Divisors.{euclid, gcd, common}
 use Rattle.nomos_simplex.specs.Exchange.{exchanged}
-use Rattle.nomos_simplex.specs.Lowest.{entering}
-use Rattle.nomos_simplex.specs.declared.table.Line.{Line}
+use Rattle.nomos_simplex.specs.LowestVariable.{entering}
+use Rattle.nomos_simplex.specs.declared.table.TableLine.{TableLine}
 use Rattle.nomos_simplex.specs.declared.table.Table.{Table}
 
 twelve : gcd 36 24 ≡ 12
@@ -12,7 +12,7 @@ unfolding gcd euclid
 twelve = refl
 
 -- the line of the row x1 + x2 >= 1
-abbrev sum : Line
+abbrev sum : TableLine
 sum = record { times = pos 1; basic = 5; coefs = pos 1 ∷ pos 1 ∷ [] }
 
 -- the lines of -2*x1 >= -1 and of x1 - x2 >= 0 before it

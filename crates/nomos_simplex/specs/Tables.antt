@@ -3,7 +3,7 @@ use Rattle.std.specs.Prelude.{◌≡◌, ◌+◌, ◌-◌, ℕ, nat_le, ℤ, pos
 use Rattle.std.specs.List.{range_with_len}
 use Rattle.nomos_forms.specs.declared.row.Row.{Row}
 use Rattle.nomos_forms.specs.declared.row_list.RowList.{RowList}
-use Rattle.nomos_simplex.specs.declared.table.Line.{Line}
+use Rattle.nomos_simplex.specs.declared.table.TableLine.{TableLine}
 use Rattle.nomos_simplex.specs.declared.table.Table.{Table}
 
 -- the least of a row, 0 where there is none
@@ -22,7 +22,7 @@ sum_at y (v ∷ vs) [] = pos 0
 sum_at y (v ∷ vs) (c ∷ cs) = c *ℤ y v +ℤ sum_at y vs cs
 
 -- a line is true of what the variables have
-abbrev pub HoldsAt : (ℕ → ℤ) → List ℕ → Line → Type 0
+abbrev pub HoldsAt : (ℕ → ℤ) → List ℕ → TableLine → Type 0
 HoldsAt y nonbasic line = line.times *ℤ y line.basic ≡ sum_at y nonbasic line.coefs
 
 -- each line is
@@ -30,7 +30,7 @@ abbrev pub Holds : (ℕ → ℤ) → Table → Type 0
 Holds y table = All (HoldsAt y table.nonbasic) table.lines
 
 -- the lines of rows, whose sums have the numbers from v on
-abbrev pub lines_from : ℕ → List Row → List Line
+abbrev pub lines_from : ℕ → List Row → List TableLine
 lines_from v [] = []
 lines_from v (row ∷ rows) = record { times = pos 1; basic = v; coefs = row.coefs } ∷ lines_from (v + 1) rows
 

@@ -5,7 +5,7 @@ ghost use Rattle.nomos_simplex.specs.Tables.{bound_of};
 ghost use Rattle.nomos_simplex.specs.mirror.Keeping.{sum_of, over_by};
 ghost use Rattle.nomos_forms.specs.Bounds.{IsSmall};
 
-use crate::table::Line;
+use crate::table::TableLine;
 use nomos_forms::row_list::RowList;
 use std::alloc::{AllocError, Global};
 
@@ -64,7 +64,7 @@ pub fn sum_at_bounds(bounds: &[i64], coefs: &[i128]) -> i128
 }
 
 /// The bound of the variable of a line, times the number before it.
-fn least_of(rows: &RowList, line: &Line) -> i128
+fn least_of(rows: &RowList, line: &TableLine) -> i128
     requires { IsNumber line.now.times }
     ensures value { result ≡ line.now.times *ℤ bound_of rows.now line.now.basic }
     ensures size { unsigned_abs result ≤ 2 ^ 113 }
@@ -84,7 +84,7 @@ fn difference(a: i128, b: i128) -> i128
 
 /// How far the variable of a line is over its bound, times the number before it: below 0 where it is below its bound.
 /// The bounds are those of the nonbasic variables.
-pub fn over_of(rows: &RowList, bounds: &[i64], line: &Line) -> i128
+pub fn over_of(rows: &RowList, bounds: &[i64], line: &TableLine) -> i128
     requires few { length bounds.now ≤ 64 }
     requires bounds { All IsSmall bounds.now }
     requires line { IsLine (length bounds.now) line.now }

@@ -1,17 +1,17 @@
 //! The choice of the variables that are exchanged.
 ghost use Rattle.std.specs.Prelude.{◌≡◌, ◌<◌, nat_lt, length, pos, int_lt, slice_index, slice_index_or, map, IfSome};
 ghost use Rattle.nomos_forms.specs.declared.row_list.RowList.{RowList};
-ghost use Rattle.nomos_simplex.specs.Lowest as lowest;
-ghost use Rattle.nomos_simplex.specs.Lowest.{lower_of, lowest_place};
+ghost use Rattle.nomos_simplex.specs.LowestVariable as lowest;
+ghost use Rattle.nomos_simplex.specs.LowestVariable.{lower_of, lowest_place};
 ghost use Rattle.nomos_simplex.specs.mirror.Classes.{Fit, IsFollowed, IsChosen, class_at};
 ghost use Rattle.nomos_simplex.specs.mirror.Keeping.{Shows};
 
 use crate::classes::{Class, Classed};
-use crate::keeping::Kept;
-use crate::table::{Line, Table};
+use crate::keeping::KeptTable;
+use crate::table::{Table, TableLine};
 
 /// The place of the line with the lower basic variable.
-fn lower_line(lines: &[Line], place: usize, best: Option<usize>) -> usize
+fn lower_line(lines: &[TableLine], place: usize, best: Option<usize>) -> usize
     requires place { place < length lines.now }
     requires best { IfSome best (λ other. other < length lines.now) }
     ensures lower { result ≡ lower_of (λ i. slice_index (map (λ line. line.basic) lines.now) i) place best }
@@ -30,7 +30,7 @@ fn lower_line(lines: &[Line], place: usize, best: Option<usize>) -> usize
 }
 
 /// The place of the line of the lowest basic variable of those that are below their bounds.
-fn leaving_of(over: &[i128], lines: &[Line]) -> Option<usize>
+fn leaving_of(over: &[i128], lines: &[TableLine]) -> Option<usize>
     requires { length over.now ≡ length lines.now }
     ensures choice { result ≡ lowest_place (λ i. int_lt (slice_index_or over.now i (pos 0)) (pos 0))
         (λ i. slice_index (map (λ line. line.basic) lines.now) i) (length lines.now) }
@@ -46,7 +46,7 @@ fn leaving_of(over: &[i128], lines: &[Line]) -> Option<usize>
 }
 
 /// The place of the line of the lowest basic variable below its bound.
-pub fn leaving(kept: &Kept) -> Option<usize>
+pub fn leaving(kept: &KeptTable) -> Option<usize>
     requires { length kept.now.over ≡ length kept.now.table.lines }
     ensures choice { (rows : RowList) → Shows rows kept.now → result ≡ lowest.leaving rows kept.now.table }
     ensures place { IfSome result (λ place. place < length kept.now.table.lines) }
@@ -74,7 +74,7 @@ pub fn lower_column(nonbasic: &[usize], column: usize, best: Option<usize>) -> u
 }
 
 /// The column of the lowest nonbasic variable with a coefficient over 0 in the line.
-pub fn entering(table: &Table, line: &Line) -> Option<usize>
+pub fn entering(table: &Table, line: &TableLine) -> Option<usize>
     requires { length line.now.coefs ≡ length table.now.nonbasic }
     ensures choice { result ≡ lowest.entering table.now line.now }
     ensures column { IfSome result (λ column. column < length table.now.nonbasic) }

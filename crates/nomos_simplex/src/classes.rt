@@ -4,7 +4,7 @@ ghost use Rattle.std.specs.List.{range_with_len};
 ghost use Rattle.nomos_simplex.specs.mirror.Classes.{coefs_of as row_coefs, IsAlike, IsClass, IsInOne, classes_exchanged, class_of_star};
 
 use crate::bounds::bound;
-use crate::keeping::Kept;
+use crate::keeping::KeptTable;
 use nomos_forms::row_list::RowList;
 use nomos_ir::items::Items;
 use std::alloc::{AllocError, Global};
@@ -38,7 +38,7 @@ impl Class {
 /// What is kept of a table with one line for each class.
 #[derive(Drop)]
 pub(crate) struct Classed {
-    pub(crate) kept: Kept,
+    pub(crate) kept: KeptTable,
     pub(crate) classes: Classes,
 }
 

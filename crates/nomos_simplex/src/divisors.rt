@@ -3,7 +3,7 @@ ghost use Rattle.std.specs.Prelude.{◌≡◌, ◌<◌, ◌%◌, pos, ◌<ℤ◌
 ghost use Rattle.nomos_simplex.specs.Divisors.{gcd, common, divided_by, in_lowest_terms};
 
 use crate::sizes::is_small;
-use crate::table::Line;
+use crate::table::TableLine;
 use nomos_ir::items::Items;
 
 /// The greatest number of 64 bits: where numbers are no greater, the processor divides them itself.
@@ -74,7 +74,7 @@ fn common_divisor(first: u128, others: &[i128]) -> u128
 }
 
 /// The line divided by the greatest common divisor of its numbers.
-pub fn lowest_terms(line: Line) -> Line
+pub fn lowest_terms(line: TableLine) -> TableLine
     requires { pos 0 <ℤ line.times }
     ensures { result ≡ in_lowest_terms line }
 {
@@ -97,18 +97,18 @@ fn quotient(number: i128, by: i128) -> i128
 }
 
 /// The line divided by a number.
-fn divided(line: Line, by: i128) -> Line
+fn divided(line: TableLine, by: i128) -> TableLine
     requires { pos 0 <ℤ by }
     ensures { result ≡ divided_by by line }
 {
-    let Line {
+    let TableLine {
         times,
         basic,
         coefs,
     } = line;
     let mut coefs = coefs.into_vec();
     divide_all(&mut coefs, by);
-    Line {
+    TableLine {
         times: quotient(times, by),
         basic,
         coefs: Items::of_vec(coefs),

@@ -2,16 +2,16 @@
 ghost use Rattle.std.specs.Prelude.{◌≡◌, ◌<◌, ℕ, ◌≤◌, ◌++◌, List, [], ◌∷◌, pos, length, map, All, IfOk, IfSome, slice_get, Some};
 ghost use Rattle.nomos_simplex.specs.Exchange.{coef_at, exchanged};
 ghost use Rattle.nomos_forms.specs.declared.row_list.RowList.{RowList};
-ghost use Rattle.nomos_simplex.specs.declared.table.Line.{Line};
+ghost use Rattle.nomos_simplex.specs.declared.table.TableLine.{TableLine};
 ghost use Rattle.nomos_simplex.specs.Sizes.{IsNumber, HasNumbers, IsLine, IsLowest};
 ghost use Rattle.nomos_simplex.specs.mirror.Keeping.{over_of as over_at, Shows, IsEntry, EntryShows, before, IsPut, IsKeptPut, entered, solved_line, IsMade, AreMade, IsKeptOrLarge};
 ghost use Rattle.nomos_simplex.specs.mirror.Opposite.{oriented_of};
 
 use crate::bounds::{bounds_of, over_of};
-use crate::keeping::Kept;
-use crate::lines::{cross, enter, next_places, opposite, opposite_line, product, solved};
+use crate::keeping::KeptTable;
 use crate::sizes::{has_large_number, is_large, is_too_large};
-use crate::table::{Line, Table};
+use crate::table::{Table, TableLine};
+use crate::table_lines::{cross, enter, next_places, opposite, opposite_line, product, solved};
 use nomos_forms::row_list::RowList;
 use nomos_ir::items::Items;
 use std::alloc::{AllocError, Global};
@@ -21,10 +21,10 @@ use std::alloc::{AllocError, Global};
 /// exchange, and the bounds are theirs. `over` is how far the variable that is left was over its bound, times the
 /// number before it, where that is not large.
 #[derive(Drop)]
-pub(crate) struct Entry {
+pub(crate) struct EnteredLine {
     pub(crate) column: usize,
     pub(crate) entering: usize,
-    pub(crate) left: Line,
+    pub(crate) left: TableLine,
     pub(crate) next: Vec<usize>,
     pub(crate) over: Option<i128>,
     pub(crate) nonbasic: Vec<usize>,
@@ -34,13 +34,13 @@ pub(crate) struct Entry {
 /// What a line has once the entering variable is put in, before lowest terms: the number before its variable, and how
 /// far that is over its bound.
 #[derive(Clone, Copy)]
-pub(crate) struct Put {
+pub(crate) struct PutIn {
     pub(crate) times: i128,
     pub(crate) over: i128,
 }
 
 /// What a line will have, whose variable is so far over its bound, where that is not large.
-fn put_of(entry: &Entry, line: &Line, over: i128) -> Option<Put>
+fn put_of(entry: &EnteredLine, line: &TableLine, over: i128) -> Option<PutIn>
     requires entry { IsEntry entry.now }
     requires line { IsLine (length entry.now.left.coefs) line.now }
     ensures { (rows : RowList) → EntryShows rows entry.now → over ≡ over_at rows (before entry.now) line.now →
@@ -52,7 +52,7 @@ fn put_of(entry: &Entry, line: &Line, over: i128) -> Option<Put>
     }
     let p = entry.left.coefs.as_slice()[entry.column];
     let g = line.coefs.as_slice()[entry.column];
-    Some(Put {
+    Some(PutIn {
         times: product(p, line.times),
         over: cross(p, over, g, left),
     })
@@ -60,7 +60,7 @@ fn put_of(entry: &Entry, line: &Line, over: i128) -> Option<Put>
 
 /// How far the variable of a line is over its bound after the exchange. That is known where the line had no common
 /// divisor, and otherwise summed up.
-fn over_after(rows: &RowList, entry: &Entry, line: &Line, put: Option<Put>) -> i128
+fn over_after(rows: &RowList, entry: &EnteredLine, line: &TableLine, put: Option<PutIn>) -> i128
     requires entry { IsEntry entry.now }
     requires shows { EntryShows rows.now entry.now }
     requires line { IsLine (length entry.now.left.coefs) line.now }
@@ -80,8 +80,8 @@ fn over_after(rows: &RowList, entry: &Entry, line: &Line, put: Option<Put>) -> i
 fn enter_kept(
     alloc: Global,
     rows: &RowList,
-    entry: &Entry,
-    line: &mut Line,
+    entry: &EnteredLine,
+    line: &mut TableLine,
     over: i128,
 ) -> Option<i128>
     requires entry { IsEntry entry.now }
@@ -106,8 +106,8 @@ fn enter_kept(
 fn enter_all(
     alloc: Global,
     rows: &RowList,
-    entry: &Entry,
-    lines: &mut [Line],
+    entry: &EnteredLine,
+    lines: &mut [TableLine],
     over: &mut [i128],
 ) -> bool
     requires entry { IsEntry entry.now }
@@ -127,7 +127,7 @@ fn enter_all(
 }
 
 /// A line, or its opposite where the coefficient in a column is below 0.
-fn oriented(alloc: Global, column: usize, line: Line) -> Result<Line, AllocError>
+fn oriented(alloc: Global, column: usize, line: TableLine) -> Result<TableLine, AllocError>
     requires column { column < length line.coefs }
     requires line { HasNumbers line }
     ensures { IfOk result (λ made. made ≡ oriented_of column line) }
@@ -140,7 +140,7 @@ fn oriented(alloc: Global, column: usize, line: Line) -> Result<Line, AllocError
 
 /// How far the variable of a line is over its bound, or of its opposite where the coefficient in a column is below 0,
 /// where that is not large.
-fn oriented_over(column: usize, line: &Line, over: i128) -> Option<i128>
+fn oriented_over(column: usize, line: &TableLine, over: i128) -> Option<i128>
     requires { column < length line.now.coefs }
     ensures small { IfSome result IsNumber }
     ensures value { (rows : RowList) (nonbasic : List ℕ) → over ≡ over_at rows nonbasic line.now →
@@ -161,8 +161,8 @@ fn oriented_over(column: usize, line: &Line, over: i128) -> Option<i128>
 fn exchange_lines(
     alloc: Global,
     rows: &RowList,
-    entry: &Entry,
-    lines: &mut Vec<Line>,
+    entry: &EnteredLine,
+    lines: &mut Vec<TableLine>,
     over: &mut Vec<i128>,
 ) -> Result<bool, AllocError>
     requires entry { IsEntry entry.now }
@@ -191,22 +191,22 @@ fn exchange_lines(
 pub(crate) fn exchange(
     alloc: Global,
     rows: &RowList,
-    kept: Kept,
+    kept: KeptTable,
     place: usize,
     column: usize,
-) -> Result<Option<Kept>, AllocError>
+) -> Result<Option<KeptTable>, AllocError>
     requires shows { Shows rows.now kept }
     requires few { length kept.table.nonbasic ≤ 64 }
     requires place { place < length kept.table.lines }
     requires column { column < length kept.table.nonbasic }
     requires lines { All (IsLine (length kept.table.nonbasic)) kept.table.lines }
     requires lowest { All IsLowest kept.table.lines }
-    requires not_zero { (left : Line) → slice_get kept.table.lines place ≡ Some left →
+    requires not_zero { (left : TableLine) → slice_get kept.table.lines place ≡ Some left →
         ¬ (coef_at column left ≡ pos 0) }
-    ensures { (left : Line) → slice_get kept.table.lines place ≡ Some left →
+    ensures { (left : TableLine) → slice_get kept.table.lines place ≡ Some left →
         IfOk result (IsKeptOrLarge rows.now (exchanged place column left kept.table)) }
 {
-    let Kept { table, over } = kept;
+    let KeptTable { table, over } = kept;
     let Table { nonbasic, lines } = table;
     let mut nonbasic = nonbasic.into_vec();
     let mut lines = lines.into_vec();
@@ -218,7 +218,7 @@ pub(crate) fn exchange(
     let entering = nonbasic[column];
     nonbasic[column] = left.basic;
     let bounds = bounds_of(alloc, rows, &nonbasic)?;
-    let entry = Entry {
+    let entry = EnteredLine {
         column,
         entering,
         left,
@@ -231,7 +231,7 @@ pub(crate) fn exchange(
     if large {
         return Ok(None);
     }
-    Ok(Some(Kept {
+    Ok(Some(KeptTable {
         table: Table {
             nonbasic: Items::of_vec(entry.nonbasic),
             lines: Items::of_vec(lines),

@@ -13,7 +13,7 @@ ghost use Rattle.nomos_simplex.specs.Tables.{bound_of};
 use crate::bounds::{bounds_of, sum_at_bounds};
 use crate::divisors::greatest_divisor;
 use crate::solved::{Solved, Stop};
-use crate::table::{Line, Table};
+use crate::table::{Table, TableLine};
 use nomos_forms::found::Found;
 use nomos_forms::row_list::RowList;
 use nomos_ir::items::Items;
@@ -23,14 +23,14 @@ use std::alloc::{AllocError, Global};
 type Fraction = (u128, u128);
 
 /// The line of a basic variable.
-pub fn line_of(lines: &[Line], variable: usize) -> Option<&Line>
+pub fn line_of(lines: &[TableLine], variable: usize) -> Option<&TableLine>
     ensures { option_copied result ≡ find (λ line. line.basic == variable) lines.now }
 {
     lines.iter().find(|line| line.basic == variable)
 }
 
 /// What a star is, by the bounds of the nonbasic variables.
-fn fraction(bounds: &[i64], lines: &[Line], star: usize) -> Fraction
+fn fraction(bounds: &[i64], lines: &[TableLine], star: usize) -> Fraction
     requires few { length bounds.now ≤ 64 }
     requires bounds { All IsSmall bounds.now }
     requires lines { All (IsLine (length bounds.now)) lines.now }

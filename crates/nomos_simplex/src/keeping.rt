@@ -13,7 +13,7 @@ use std::alloc::{AllocError, Global};
 /// A table, and of each of its lines how far the basic variable is over its bound, times the number before it: below 0
 /// where it is below its bound.
 #[derive(Drop)]
-pub(crate) struct Kept {
+pub(crate) struct KeptTable {
     pub(crate) table: Table,
     pub(crate) over: Items<i128>,
 }
@@ -32,13 +32,13 @@ fn overs(alloc: Global, rows: &RowList, table: &Table) -> Result<Vec<i128>, Allo
 }
 
 /// What is kept of a table.
-pub(crate) fn keep(alloc: Global, rows: &RowList, table: Table) -> Result<Kept, AllocError>
+pub(crate) fn keep(alloc: Global, rows: &RowList, table: Table) -> Result<KeptTable, AllocError>
     requires { IsTable rows.now table }
     ensures table { IfOk result (λ made. made.table ≡ table) }
     ensures shows { IfOk result (Shows rows.now) }
 {
     let over = overs(alloc, rows, &table)?;
-    Ok(Kept {
+    Ok(KeptTable {
         table,
         over: Items::of_vec(over),
     })

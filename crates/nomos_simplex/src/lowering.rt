@@ -17,21 +17,21 @@ ghost use Rattle.nomos_simplex.specs.ShowsLeast.{ShowsLeast, IsProof};
 ghost use Rattle.nomos_simplex.specs.Sizes.{IsNumber, IsLine, IsLowest, IsTable, IsVariable};
 ghost use Rattle.nomos_simplex.specs.declared.solved.Proof.{Proof};
 ghost use Rattle.nomos_simplex.specs.declared.solved.SolvedLeast.TheVariants as least;
-ghost use Rattle.nomos_simplex.specs.declared.table.Line.{Line};
+ghost use Rattle.nomos_simplex.specs.declared.table.TableLine.{TableLine};
 ghost use Rattle.nomos_simplex.specs.declared.table.Table.{Table};
 ghost use Rattle.nomos_simplex.specs.mirror.Classes.{IsReached, IsKept, ShowsFull};
 ghost use Rattle.nomos_simplex.specs.mirror.Steps.{IsNext, IsNotFound, MayLeave, StandsAt, EndsFoundAt, LowersTo, IsAimedOrLarge};
 
 use crate::classes::Classed;
 use crate::fractions::found;
-use crate::goal::goal_line;
-use crate::lines::{enter, negated, next_places, opposite_line};
+use crate::goal_line::goal_line;
 use crate::nearest::{lowering, nearest};
 use crate::refusing::{resolved, times_of, weights_of};
 use crate::sizes::is_too_large;
 use crate::solved::{Proof, Solved, SolvedLeast, Stop};
-use crate::solving::{BUDGET, Sought, seek};
-use crate::table::Line;
+use crate::solving::{BUDGET, SolvingEnd, seek};
+use crate::table::TableLine;
+use crate::table_lines::{enter, negated, next_places, opposite_line};
 use crate::turning::exchange_classed;
 use nomos_forms::form::Form;
 use nomos_forms::found::Found;
@@ -44,7 +44,7 @@ use std::alloc::{AllocError, Global};
 #[derive(Drop)]
 pub(crate) struct Aimed {
     pub(crate) classed: Classed,
-    pub(crate) line: Line,
+    pub(crate) line: TableLine,
 }
 
 /// The least run ends, or goes on.
@@ -68,7 +68,8 @@ fn exchange_aimed(
     requires column { column < length aimed.classed.kept.table.nonbasic }
     requires line { IsLine (length aimed.classed.kept.table.nonbasic) aimed.line }
     requires lowest_line { IsLowest aimed.line }
-    ensures { (full : Table) (k : ℕ) (left : Line) → IsReached rows.now full → ShowsFull rows.now aimed.classed full →
+    ensures { (full : Table) (k : ℕ) (left : TableLine) → IsReached rows.now full
+        → ShowsFull rows.now aimed.classed full →
         slice_get full.lines k ≡ Some left → slice_get aimed.classed.kept.table.lines place ≡ Some left →
         IfOk result (IsAimedOrLarge rows.now (exchanged k column left full) (line_exchanged column left aimed.line)) }
 {
@@ -263,8 +264,8 @@ fn run_both(alloc: Global, rows: &RowList, goal: &Form) -> Result<SolvedLeast, A
     ensures { IfOk result (LeastRun rows.now goal.now) }
 {
     match seek(alloc, rows)? {
-        Sought::Stands(classed, pivots) => run_on(alloc, rows, goal, classed, pivots),
-        Sought::Ends(solved) => Ok(without_amounts(solved)),
+        SolvingEnd::Stands(classed, pivots) => run_on(alloc, rows, goal, classed, pivots),
+        SolvingEnd::Ends(solved) => Ok(without_amounts(solved)),
     }
 }
 

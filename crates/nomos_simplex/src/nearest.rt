@@ -1,6 +1,6 @@
 //! The choice of the variables whose exchange lowers a goal.
 ghost use Rattle.std.specs.Prelude.{◌≡◌, ◌<◌, length, IfSome};
-ghost use Rattle.nomos_simplex.specs.Lowest.{former_of};
+ghost use Rattle.nomos_simplex.specs.LowestVariable.{former_of};
 ghost use Rattle.nomos_simplex.specs.Nearest as nearest;
 ghost use Rattle.nomos_simplex.specs.Nearest.{line_at};
 ghost use Rattle.nomos_simplex.specs.mirror.Keeping.{Shows};
@@ -8,11 +8,11 @@ ghost use Rattle.nomos_simplex.specs.mirror.Steps.{IsReach, MayLeave, KeptFits};
 ghost use Rattle.nomos_forms.specs.declared.row_list.RowList.{RowList};
 
 use crate::choosing::lower_column;
-use crate::keeping::Kept;
-use crate::table::{Line, Table};
+use crate::keeping::KeptTable;
+use crate::table::{Table, TableLine};
 
 /// The column of the lowest nonbasic variable with a coefficient below 0 in the goal's line.
-pub fn lowering(table: &Table, line: &Line) -> Option<usize>
+pub fn lowering(table: &Table, line: &TableLine) -> Option<usize>
     requires { length line.now.coefs ≡ length table.now.nonbasic }
     ensures choice { result ≡ nearest.lowering table.now line.now }
     ensures column { IfSome result (λ column. column < length table.now.nonbasic) }
@@ -32,7 +32,7 @@ pub fn lowering(table: &Table, line: &Line) -> Option<usize>
 type Reach = (u128, u128);
 
 /// How far the variable of a column may rise before the variable of the line at a place comes to its bound.
-fn reach(kept: &Kept, column: usize, place: usize) -> Reach
+fn reach(kept: &KeptTable, column: usize, place: usize) -> Reach
     requires table { KeptFits kept.now }
     requires column { column < length kept.now.table.nonbasic }
     requires place { MayLeave kept.now.table column place }
@@ -61,7 +61,7 @@ fn is_less(f: Reach, g: Reach) -> bool
 }
 
 /// Whether the line at a place comes before that at another.
-fn is_nearer(kept: &Kept, column: usize, place: usize, other: usize) -> bool
+fn is_nearer(kept: &KeptTable, column: usize, place: usize, other: usize) -> bool
     requires table { KeptFits kept.now }
     requires column { column < length kept.now.table.nonbasic }
     requires place { MayLeave kept.now.table column place }
@@ -82,7 +82,7 @@ fn is_nearer(kept: &Kept, column: usize, place: usize, other: usize) -> bool
 }
 
 /// The one of two places that comes first.
-fn nearer_line(kept: &Kept, column: usize, place: usize, best: Option<usize>) -> usize
+fn nearer_line(kept: &KeptTable, column: usize, place: usize, best: Option<usize>) -> usize
     requires table { KeptFits kept.now }
     requires column { column < length kept.now.table.nonbasic }
     requires place { MayLeave kept.now.table column place }
@@ -106,7 +106,7 @@ fn nearer_line(kept: &Kept, column: usize, place: usize, best: Option<usize>) ->
 
 /// The place of the line whose variable leaves: of those with a coefficient below 0 in a column, the one that comes to
 /// its bound first as the variable of the column rises, and of equal ones the lowest.
-pub(crate) fn nearest(kept: &Kept, column: usize) -> Option<usize>
+pub(crate) fn nearest(kept: &KeptTable, column: usize) -> Option<usize>
     requires table { KeptFits kept.now }
     requires column { column < length kept.now.table.nonbasic }
     ensures choice { (rows : RowList) → Shows rows kept.now →

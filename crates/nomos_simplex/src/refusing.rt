@@ -6,7 +6,7 @@ ghost use Rattle.nomos_simplex.specs.Sizes.{IsNumber, IsLine, IsVariable};
 ghost use Rattle.nomos_simplex.specs.Tables.{bound_of, sum_at};
 
 use crate::bounds::{bounds_of, over_of};
-use crate::table::{Line, Table};
+use crate::table::{Table, TableLine};
 use nomos_forms::row::Row;
 use nomos_forms::row_list::RowList;
 use nomos_forms::verdict::{Of, Verdict, Weight};
@@ -109,7 +109,7 @@ fn missing(
     alloc: Global,
     rows: &RowList,
     nonbasic: &[usize],
-    line: &Line,
+    line: &TableLine,
 ) -> Result<u128, AllocError>
     requires few { length nonbasic.now ≤ 64 }
     requires line { IsLine (length nonbasic.now) line.now }
@@ -125,7 +125,7 @@ pub fn verdict(
     alloc: Global,
     rows: &RowList,
     table: &Table,
-    line: &Line,
+    line: &TableLine,
 ) -> Result<Verdict, AllocError>
     requires few { length table.now.nonbasic ≤ 64 }
     requires line { IsLine (length table.now.nonbasic) line.now }

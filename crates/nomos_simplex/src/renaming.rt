@@ -1,7 +1,7 @@
 //! Which variable of a class stands for it: the lowest that is below its bound, or where none is, the last.
 ghost use Rattle.std.specs.Prelude.{◌≡◌, ℕ, List, ◌<◌, ◌≤◌, ◌^◌, pos, ◌<ℤ◌, ◌*ℤ◌, ◌-ℤ◌, length, map, All, IfOk};
 ghost use Rattle.nomos_forms.specs.Bounds.{IsSmall};
-ghost use Rattle.nomos_simplex.specs.Lowest as lowest;
+ghost use Rattle.nomos_simplex.specs.LowestVariable as lowest;
 ghost use Rattle.nomos_simplex.specs.Nearest.{line_at};
 ghost use Rattle.nomos_simplex.specs.Sizes.{IsNumber, IsLine, IsTable};
 ghost use Rattle.nomos_simplex.specs.Tables.{bound_of};
@@ -10,15 +10,15 @@ ghost use Rattle.nomos_simplex.specs.mirror.Keeping.{over_of as over_at, Shows};
 
 use crate::bounds::{bound, bounds_of, over_of};
 use crate::classes::{Class, Classes};
-use crate::keeping::Kept;
-use crate::lines::product;
-use crate::table::{Line, Table};
+use crate::keeping::KeptTable;
+use crate::table::{Table, TableLine};
+use crate::table_lines::product;
 use nomos_forms::row_list::RowList;
 use nomos_ir::items::Items;
 use std::alloc::{AllocError, Global};
 
 /// How much higher the bound of a variable is than that of a line's own, times the number before it.
-fn raised(rows: &RowList, line: &Line, variable: usize) -> i128
+fn raised(rows: &RowList, line: &TableLine, variable: usize) -> i128
     requires { IsNumber line.now.times }
     ensures { result ≡ line.now.times *ℤ (bound_of rows.now variable -ℤ bound_of rows.now line.now.basic) }
 {
@@ -27,7 +27,7 @@ fn raised(rows: &RowList, line: &Line, variable: usize) -> i128
 }
 
 /// Whether a variable would be below its bound, if the line whose own variable is so far over its bound were its own.
-fn is_below(rows: &RowList, line: &Line, over: i128, variable: usize) -> bool
+fn is_below(rows: &RowList, line: &TableLine, over: i128, variable: usize) -> bool
     requires { IsNumber line.now.times }
     ensures { (nonbasic : List ℕ) → over ≡ over_at rows.now nonbasic line.now →
         result ≡ lowest.is_below rows.now nonbasic (named variable line.now) }
@@ -36,7 +36,7 @@ fn is_below(rows: &RowList, line: &Line, over: i128, variable: usize) -> bool
 }
 
 /// The variable that stands for a class, whose line has one of its variables that is so far over its bound.
-fn lead(rows: &RowList, class: Class, line: &Line, over: i128) -> usize
+fn lead(rows: &RowList, class: Class, line: &TableLine, over: i128) -> usize
     requires times { IsNumber line.now.times }
     requires positive { pos 0 <ℤ line.now.times }
     requires class { IsClass rows.now class }
@@ -59,7 +59,13 @@ fn lead(rows: &RowList, class: Class, line: &Line, over: i128) -> usize
 
 /// Gives a line the variable that stands for its class, and says how far that is over its bound. The bounds are those
 /// of the nonbasic variables.
-fn rename_line(rows: &RowList, bounds: &[i64], class: Class, line: &mut Line, over: i128) -> i128
+fn rename_line(
+    rows: &RowList,
+    bounds: &[i64],
+    class: Class,
+    line: &mut TableLine,
+    over: i128,
+) -> i128
     requires few { length bounds.now ≤ 64 }
     requires bounds { All IsSmall bounds.now }
     requires line { IsLine (length bounds.now) line.old }
@@ -85,7 +91,7 @@ fn rename_lines(
     rows: &RowList,
     bounds: &[i64],
     classes: &[Class],
-    lines: &mut [Line],
+    lines: &mut [TableLine],
     over: &mut [i128],
 )
     requires few { length bounds.now ≤ 64 }
@@ -110,9 +116,9 @@ fn rename_lines(
 pub(crate) fn rename(
     alloc: Global,
     rows: &RowList,
-    kept: Kept,
+    kept: KeptTable,
     classes: &Classes,
-) -> Result<Kept, AllocError>
+) -> Result<KeptTable, AllocError>
     requires shows { Shows rows.now kept }
     requires table { IsTable rows.now kept.table }
     requires fit { Fit rows.now kept.table classes.now }
@@ -121,7 +127,7 @@ pub(crate) fn rename(
     ensures lead { IfOk result (λ made. Lead rows.now made.table classes.now) }
     ensures shows { IfOk result (Shows rows.now) }
 {
-    let Kept { table, over } = kept;
+    let KeptTable { table, over } = kept;
     let Table { nonbasic, lines } = table;
     let bounds = bounds_of(alloc, rows, nonbasic.as_slice())?;
     let mut lines = lines.into_vec();
@@ -133,7 +139,7 @@ pub(crate) fn rename(
         &mut lines,
         &mut over,
     );
-    Ok(Kept {
+    Ok(KeptTable {
         table: Table {
             nonbasic,
             lines: Items::of_vec(lines),

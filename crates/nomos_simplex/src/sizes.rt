@@ -4,7 +4,7 @@ ghost use Rattle.std.specs.List.{list_any};
 ghost use Rattle.nomos_simplex.specs.Exchange.{is_large as is_large_number, is_large_line};
 ghost use Rattle.nomos_simplex.specs.Sizes.{IsNumber, HasNumbers};
 
-use crate::table::Line;
+use crate::table::TableLine;
 
 /// The absolute value from which on a number is too large.
 pub const LARGE: u128 = 1 << 62;
@@ -35,14 +35,14 @@ fn has_large(numbers: &[i128]) -> bool
 }
 
 /// Whether a number of the line is too large.
-pub fn has_large_number(line: &Line) -> bool
+pub fn has_large_number(line: &TableLine) -> bool
     ensures { result ≡ is_large_line line.now }
 {
     is_large(line.times) || has_large(line.coefs.as_slice())
 }
 
 /// Whether a number of a line is too large, where it may be known that none is.
-pub fn is_too_large(small: bool, line: &Line) -> bool
+pub fn is_too_large(small: bool, line: &TableLine) -> bool
     requires { IsTrue small → HasNumbers line.now }
     ensures { result ≡ is_large_line line.now }
 {

@@ -21,7 +21,7 @@ use crate::keeping::keep;
 use crate::refusing::verdict;
 use crate::renaming::rename;
 use crate::solved::{Solved, Stop};
-use crate::table::{Line, Table};
+use crate::table::{Table, TableLine};
 use crate::turning::{Next, exchange_classed, step};
 use nomos_forms::row_list::RowList;
 use nomos_ir::items::Items;
@@ -53,12 +53,12 @@ fn widened(alloc: Global, numbers: &[i64]) -> Result<Vec<i128>, AllocError>
 }
 
 /// The line of a class at first.
-fn first_line(alloc: Global, rows: &RowList, class: Class) -> Result<Line, AllocError>
+fn first_line(alloc: Global, rows: &RowList, class: Class) -> Result<TableLine, AllocError>
     requires { rows.now.stars < class.first }
     ensures { IfOk result (λ line. line ≡ line_of_class rows.now class) }
 {
     let coefs = widened(alloc, coefs_of(rows, class.first))?;
-    Ok(Line {
+    Ok(TableLine {
         times: 1,
         basic: class.first,
         coefs: Items::of_vec(coefs),
@@ -66,7 +66,11 @@ fn first_line(alloc: Global, rows: &RowList, class: Class) -> Result<Line, Alloc
 }
 
 /// The lines of classes at first.
-fn first_lines(alloc: Global, rows: &RowList, classes: &[Class]) -> Result<Vec<Line>, AllocError>
+fn first_lines(
+    alloc: Global,
+    rows: &RowList,
+    classes: &[Class],
+) -> Result<Vec<TableLine>, AllocError>
     requires { All (λ class. rows.now.stars < class.first) classes.now }
     ensures { IfOk result (λ v. v.items ≡ map (line_of_class rows.now) classes.now) }
 {
@@ -109,7 +113,7 @@ fn first(alloc: Global, rows: &RowList) -> Result<Classed, AllocError>
 /// Where the run comes to: what is kept of a table where no basic variable is below its bound, after so many pivots, or
 /// another end.
 #[derive(Drop)]
-pub(crate) enum Sought {
+pub(crate) enum SolvingEnd {
     Stands(Classed, u32),
     Ends(Solved),
 }
@@ -184,25 +188,25 @@ fn turn_at(
 }
 
 /// The run, up to where it ends.
-pub(crate) fn seek(alloc: Global, rows: &RowList) -> Result<Sought, AllocError>
+pub(crate) fn seek(alloc: Global, rows: &RowList) -> Result<SolvingEnd, AllocError>
     ensures { IfOk result (IsSought rows.now) }
 {
     let mut classed = first(alloc, rows)?;
     for pivots in 0..BUDGET {
         let Some(leaves) = choose(&classed) else {
-            return Ok(Sought::Stands(classed, pivots));
+            return Ok(SolvingEnd::Stands(classed, pivots));
         };
         match turn_at(alloc, rows, classed, leaves, pivots)? {
-            Next::Ends(solved) => return Ok(Sought::Ends(solved)),
+            Next::Ends(solved) => return Ok(SolvingEnd::Ends(solved)),
             Next::Goes(after) => classed = after,
         }
     }
     let Some(leaves) = choose(&classed) else {
-        return Ok(Sought::Stands(classed, BUDGET));
+        return Ok(SolvingEnd::Stands(classed, BUDGET));
     };
     match turn_at(alloc, rows, classed, leaves, BUDGET)? {
-        Next::Ends(solved) => Ok(Sought::Ends(solved)),
-        Next::Goes(_) => Ok(Sought::Ends(Solved::Unsolved(Stop::Pivots))),
+        Next::Ends(solved) => Ok(SolvingEnd::Ends(solved)),
+        Next::Goes(_) => Ok(SolvingEnd::Ends(Solved::Unsolved(Stop::Pivots))),
     }
 }
 
@@ -211,8 +215,8 @@ fn run_all(alloc: Global, rows: &RowList) -> Result<Solved, AllocError>
     ensures { IfOk result (λ answer. answer ≡ answer_to rows.now) }
 {
     match seek(alloc, rows)? {
-        Sought::Stands(classed, pivots) => found(alloc, rows, &classed.kept.table, pivots),
-        Sought::Ends(solved) => Ok(solved),
+        SolvingEnd::Stands(classed, pivots) => found(alloc, rows, &classed.kept.table, pivots),
+        SolvingEnd::Ends(solved) => Ok(solved),
     }
 }
 

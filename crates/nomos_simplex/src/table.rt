@@ -3,7 +3,7 @@ use nomos_ir::items::Items;
 
 /// The line of a basic variable: `times * basic` is the sum of the coefficients times the nonbasic variables.
 #[derive(Drop, Debug)]
-pub struct Line {
+pub struct TableLine {
     pub times: i128,
     pub basic: usize,
     pub coefs: Items<i128>,
@@ -13,7 +13,7 @@ pub struct Line {
 pub type Variables = Items<usize>;
 
 /// Lines.
-pub type Lines = Items<Line>;
+pub type Lines = Items<TableLine>;
 
 /// The nonbasic variables, and one line for each basic variable: `docs/SOLVER.md`, "The table".
 #[derive(Drop, Debug)]

@@ -4,7 +4,7 @@ use crate::table::Table;
 
 /// The run ends, or goes on at a table.
 #[derive(Drop, Debug)]
-pub enum Turn {
+pub enum PivotTurn {
     Ends(Solved),
     Goes(Table),
 }

@@ -4,18 +4,18 @@ ghost use Rattle.nomos_simplex.specs.Exchange.{coef_at, exchanged};
 ghost use Rattle.nomos_simplex.specs.GoalLine.{line_of};
 ghost use Rattle.nomos_simplex.specs.Nearest.{line_at};
 ghost use Rattle.nomos_simplex.specs.Sizes.{IsNumber, HasNumbers};
-ghost use Rattle.nomos_simplex.specs.declared.table.Line.{Line};
+ghost use Rattle.nomos_simplex.specs.declared.table.TableLine.{TableLine};
 ghost use Rattle.nomos_simplex.specs.declared.table.Table.{Table as FullTable};
 ghost use Rattle.nomos_simplex.specs.mirror.Classes.{IsReached, IsKept, ShowsFull, IsClassedOrLarge, class_at, column_at, named};
 
 use crate::bounds::bound;
 use crate::classes::{Classed, exchange_classes};
 use crate::exchanging::exchange;
-use crate::keeping::Kept;
-use crate::lines::product;
+use crate::keeping::KeptTable;
 use crate::renaming::rename;
 use crate::solved::Solved;
-use crate::table::{Line, Table};
+use crate::table::{Table, TableLine};
+use crate::table_lines::product;
 use nomos_forms::row_list::RowList;
 use nomos_ir::items::Items;
 use std::alloc::{AllocError, Global};
@@ -40,9 +40,10 @@ pub(crate) fn exchange_classed(
     requires kept { IsKept rows.now classed }
     requires place { place < length classed.kept.table.lines }
     requires column { column < length classed.kept.table.nonbasic }
-    requires not_zero { (left : Line) → slice_get classed.kept.table.lines place ≡ Some left →
+    requires not_zero { (left : TableLine) → slice_get classed.kept.table.lines place ≡ Some left →
         ¬ (coef_at column left ≡ pos 0) }
-    ensures { (full : FullTable) (k : ℕ) (left : Line) → IsReached rows.now full → ShowsFull rows.now classed full →
+    ensures { (full : FullTable) (k : ℕ) (left : TableLine) → IsReached rows.now full → ShowsFull rows.now classed full
+        →
         slice_get full.lines k ≡ Some left → slice_get classed.kept.table.lines place ≡ Some left →
         IfOk result (IsClassedOrLarge rows.now (exchanged k column left full)) }
 {
@@ -67,7 +68,7 @@ fn risen(over: i128, coef: i128, rise: i64) -> i128
 }
 
 /// How far the variables of lines are over their bounds once the bound of a column's variable is so much higher.
-fn raise(lines: &[Line], column: usize, rise: i64, over: &mut [i128])
+fn raise(lines: &[TableLine], column: usize, rise: i64, over: &mut [i128])
     requires long { length over.old ≡ length lines.now }
     requires column { All (λ line. column < length line.coefs) lines.now }
     requires lines { All HasNumbers lines.now }
@@ -94,13 +95,14 @@ pub(crate) fn step(
     requires kept { IsKept rows.now classed }
     requires column { column < length classed.kept.table.nonbasic }
     requires follows { column_at classed.kept.table column < (class_at classed.classes.columns column).last }
-    ensures { (full : FullTable) (k : ℕ) (left : Line) → IsReached rows.now full → ShowsFull rows.now classed full →
+    ensures { (full : FullTable) (k : ℕ) (left : TableLine) → IsReached rows.now full → ShowsFull rows.now classed full
+        →
         slice_get full.lines k ≡ Some left → left ≡ named (column_at classed.kept.table column + 1) (line_of full
         (column_at classed.kept.table column)) →
         IfOk result (λ made. ShowsFull rows.now made (exchanged k column left full)) }
 {
     let Classed { kept, classes } = classed;
-    let Kept { table, over } = kept;
+    let KeptTable { table, over } = kept;
     let Table { nonbasic, lines } = table;
     let mut nonbasic = nonbasic.into_vec();
     let mut over = over.into_vec();
@@ -109,7 +111,7 @@ pub(crate) fn step(
     nonbasic[column] = next;
     let rise = bound(rows, next) - bound(rows, before);
     raise(lines.as_slice(), column, rise, &mut over);
-    let kept = Kept {
+    let kept = KeptTable {
         table: Table {
             nonbasic: Items::of_vec(nonbasic),
             lines,

@@ -5,7 +5,7 @@ use Rattle.std.proofs.lemmas.Bool.{both_ways, cases_eq, cases_lt}
 use Rattle.std.proofs.lemmas.List.{get_or-set_same, get_or-set_other, length-set}
 use Rattle.std.proofs.lemmas.List.Sums.{sum_by-set}
 use Rattle.nomos_slots.specs.Cells.{Cell, IsGap, IsOnce, IsProbed, cell_at, entries, home_of, is_filled, is_of, name_in}
-use Rattle.nomos_slots.specs.declared.cells.Named.{Named}
+use Rattle.nomos_slots.specs.declared.cells.NamedVariable.{NamedVariable}
 use Rattle.nomos_slots.proofs.ProbeLemmas.{filled-some, filled-within, same-process, same-variable}
 
 -- one for an entry, and nothing for an empty cell
@@ -21,11 +21,12 @@ pub cell-set_other : (cells : List Cell) (at place : ℕ) (x : Cell) → (place 
     → cell_at (set cells at x) place ≡ cell_at cells place
 cell-set_other cells at place x apart = get_or-set_other cells at place x None apart
 
-pub some-within : (cells : List Cell) (place : ℕ) (e : Named) → cell_at cells place ≡ Some e → place < length cells
+pub some-within : (cells : List Cell) (place : ℕ) (e : NamedVariable) → cell_at cells place ≡ Some e
+    → place < length cells
 some-within cells place e is = filled-within cells place (filled-some cells place e is)
 
 -- it has the same entry at a place
-pub same-entry : (cells : List Cell) (one other : ℕ) (e f : Named) → one ≡ other → cell_at cells one ≡ Some e
+pub same-entry : (cells : List Cell) (one other : ℕ) (e f : NamedVariable) → one ≡ other → cell_at cells one ≡ Some e
     → cell_at cells other ≡ Some f → e ≡ f
 same-entry cells one other e f same is has = same_Some (sym is ∙ ap (cell_at cells) same ∙ has)
   where
@@ -36,13 +37,14 @@ same-entry cells one other e f same is has = same_Some (sym is ∙ ap (cell_at c
 
 -- a cell has an entry of it, with this name
 abbrev pub Has : List Cell → ℕ → ℕ → ℕ → Type 0
-Has cells p v n = (place : ℕ) × (e : Named) × (cell_at cells place ≡ Some e) × (is_of p v e ≡ true) × (e.name ≡ n)
+Has cells p v n = (place : ℕ) × (e : NamedVariable) × (cell_at cells place ≡ Some e) × (is_of p v e ≡ true)
+    × (e.name ≡ n)
 
 pub true_or_false : (b : Bool) → (b ≡ true) ⊎ (b ≡ false)
 true_or_false true = inl refl
 true_or_false false = inr refl
 
-name-step : (e : Named) (cells : List Cell) (p v : ℕ) (b : Bool) → is_of p v e ≡ b
+name-step : (e : NamedVariable) (cells : List Cell) (p v : ℕ) (b : Bool) → is_of p v e ≡ b
     → name_in (Some e ∷ cells) p v ≡ cond b (Some e.name) (name_in cells p v)
 name-step e cells p v b is = ap (λ b. cond b (Some e.name) (name_in cells p v)) is
 
@@ -62,13 +64,13 @@ name-has (Some e ∷ cells) p v n is =
     ]
 
 -- the first cell, or one of the others
-first-or_other : (c : Cell) (cells : List Cell) (place : ℕ) (e : Named) → cell_at (c ∷ cells) place ≡ Some e
+first-or_other : (c : Cell) (cells : List Cell) (place : ℕ) (e : NamedVariable) → cell_at (c ∷ cells) place ≡ Some e
     → (c ≡ Some e) ⊎ ((other : ℕ) × (cell_at cells other ≡ Some e))
 first-or_other c cells zero e is = inl is
 first-or_other c cells (suc place) e is = inr (place, is)
 
 pub none-name : (cells : List Cell) (p v : ℕ) → name_in cells p v ≡ None
-    → (place : ℕ) (e : Named) → cell_at cells place ≡ Some e → is_of p v e ≡ false
+    → (place : ℕ) (e : NamedVariable) → cell_at cells place ≡ Some e → is_of p v e ≡ false
 none-name [] p v none place e is = absurd (cc)
 none-name (None ∷ cells) p v none place e is =
     elim (first-or_other None cells place e is) [
@@ -87,7 +89,8 @@ none-name (Some f ∷ cells) p v none place e is =
     ]
 
 -- two entries of one variable of a process have one key
-pub one-key : (p v : ℕ) (e f : Named) → is_of p v e ≡ true → is_of p v f ≡ true → is_of e.process e.variable f ≡ true
+pub one-key : (p v : ℕ) (e f : NamedVariable) → is_of p v e ≡ true → is_of p v f ≡ true
+    → is_of e.process e.variable f ≡ true
 one-key p v e f is has =
     subst (λ q. is_of q e.variable f ≡ true) (sym (same-process p v e is))
     (subst (λ w. is_of p w f ≡ true) (sym (same-variable p v e is)) has)
@@ -100,7 +103,7 @@ has-name cells p v n once (place, e, is, of, named) = at (name_in cells p v) ref
         let (other, f, has, key, name) = name-has cells p v m found in
         let same : e ≡ f = same-entry cells place other e f (once place other e f is has (one-key p v e f of key)) is
         has in
-        ap Some (sym name ∙ ap (λ (k : Named). k.name) (sym same) ∙ named)
+        ap Some (sym name ∙ ap (λ (k : NamedVariable). k.name) (sym same) ∙ named)
     at None none = absurd (both_ways _ (none-name cells p v none place e is) of)
 
 -- cells with the same entries have the same names
@@ -151,7 +154,7 @@ module _ (homes : ℕ) (cells : List Cell) (hole next : ℕ) (gap : IsGap homes 
   }
 
   -- the entry there moves into the gap
-  module _ (e : Named) (is : cell_at cells next ≡ Some e) (early : home_of homes e ≤ hole)
+  module _ (e : NamedVariable) (is : cell_at cells next ≡ Some e) (early : home_of homes e ≤ hole)
       (within : hole < length cells) where
     abbrev pub moved : List Cell
     moved = set (set cells hole (Some e)) next None
@@ -173,7 +176,7 @@ module _ (homes : ℕ) (cells : List Cell) (hole next : ℕ) (gap : IsGap homes 
         cell-set_other (set cells hole (Some e)) next place None apart ∙ cell-set_other cells hole place (Some e) other
 
     -- an entry stands where it stood, or it is the one that moved
-    from-moved : (place : ℕ) (f : Named) → cell_at moved place ≡ Some f
+    from-moved : (place : ℕ) (f : NamedVariable) → cell_at moved place ≡ Some f
         → ((place ≡ hole) × (f ≡ e)) ⊎ ((place ≡ hole → ⊥) × (place ≡ next → ⊥) × (cell_at cells place ≡ Some f))
     from-moved place f has =
         elim (cases_eq place hole) [
@@ -198,7 +201,7 @@ module _ (homes : ℕ) (cells : List Cell) (hole next : ℕ) (gap : IsGap homes 
               ]
         ]
 
-    still-full : (at place : ℕ) (f : Named) → cell_at cells place ≡ Some f → home_of homes f ≤ at → at < place
+    still-full : (at place : ℕ) (f : NamedVariable) → cell_at cells place ≡ Some f → home_of homes f ≤ at → at < place
         → (at ≡ next) ⊎ (is_filled moved at ≡ true)
     still-full at place f has from before =
         elim (gap.full at place f has from before) [
@@ -207,7 +210,7 @@ module _ (homes : ℕ) (cells : List Cell) (hole next : ℕ) (gap : IsGap homes 
         ]
 
     -- where two entries of one key stood
-    place-before : (place : ℕ) (f : Named) → cell_at moved place ≡ Some f
+    place-before : (place : ℕ) (f : NamedVariable) → cell_at moved place ≡ Some f
         → (was : ℕ) × (cell_at cells was ≡ Some f)
         × ((place ≡ hole) × (was ≡ next) ⊎ ((place ≡ was) × (place ≡ hole → ⊥)))
     place-before place f has =
@@ -216,7 +219,7 @@ module _ (homes : ℕ) (cells : List Cell) (hole next : ℕ) (gap : IsGap homes 
           | inr there ↦ (place, there.2, inr (refl, there.0))
         ]
 
-    not-next : (place : ℕ) (f : Named) → cell_at moved place ≡ Some f → place ≡ next → ⊥
+    not-next : (place : ℕ) (f : NamedVariable) → cell_at moved place ≡ Some f → place ≡ next → ⊥
     not-next place f has same =
         both_ways _ (ap is_some (ap (cell_at moved) same ∙ at-next)) (filled-some moved place f has)
 

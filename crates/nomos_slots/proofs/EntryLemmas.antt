@@ -4,27 +4,27 @@ use Rattle.std.specs.Option.{is_some}
 use Rattle.std.proofs.lemmas.Bool.{both_ways, cases_eq, cond_both, eq-eqb, eqb-true, and_from, and_parts, false_from_ne_true}
 use Rattle.std.proofs.lemmas.List.Sums.{sum_by-cons, sum_by-set}
 use Rattle.nomos_slots.specs.Cells.{Cell, IsGap, IsProbed, cell_at, entries, home_of, is_filled, is_of, name_in}
-use Rattle.nomos_slots.specs.declared.cells.Named.{Named}
+use Rattle.nomos_slots.specs.declared.cells.NamedVariable.{NamedVariable}
 use Rattle.nomos_slots.proofs.CellLemmas.{cell-set_at, cell-set_other, has-name, name-has, one-key, same-entry, same-names, true_or_false, weight}
 use Rattle.nomos_slots.proofs.ProbeLemmas.{filled-some, same-process, same-variable}
 
 -- the other way about
-key-back : (e f : Named) → is_of e.process e.variable f ≡ true → is_of f.process f.variable e ≡ true
+key-back : (e f : NamedVariable) → is_of e.process e.variable f ≡ true → is_of f.process f.variable e ≡ true
 key-back e f is =
     and_from _ _ (eq-eqb _ _ (sym (same-process e.process e.variable f is)))
     (eq-eqb _ _ (sym (same-variable e.process e.variable f is)))
 
 -- an entry of this key has the key of the other
-of-key : (q w : ℕ) (e f : Named) → is_of q w e ≡ true → is_of e.process e.variable f ≡ true → is_of q w f ≡ true
+of-key : (q w : ℕ) (e f : NamedVariable) → is_of q w e ≡ true → is_of e.process e.variable f ≡ true → is_of q w f ≡ true
 of-key q w e f is has =
     subst (λ p. is_of p w f ≡ true) (same-process q w e is)
     (subst (λ v. is_of e.process v f ≡ true) (same-variable q w e is) has)
 
 -- ---- an entry comes
 
-module _ (homes : ℕ) (cells : List Cell) (at : ℕ) (e : Named) (probed : IsProbed homes cells)
+module _ (homes : ℕ) (cells : List Cell) (at : ℕ) (e : NamedVariable) (probed : IsProbed homes cells)
     (within : at < length cells)
-    (others : (place : ℕ) (f : Named) → (place ≡ at → ⊥) → cell_at cells place ≡ Some f
+    (others : (place : ℕ) (f : NamedVariable) → (place ≡ at → ⊥) → cell_at cells place ≡ Some f
     → is_of e.process e.variable f ≡ false) where
   abbrev pub with_entry : List Cell
   with_entry = set cells at (Some e)
@@ -42,7 +42,8 @@ module _ (homes : ℕ) (cells : List Cell) (at : ℕ) (e : Named) (probed : IsPr
         | inr apart ↦ ap is_some (there place apart) ∙ filled
       ]
 
-  pub once-come : (one other : ℕ) (f k : Named) → cell_at with_entry one ≡ Some f → cell_at with_entry other ≡ Some k
+  pub once-come : (one other : ℕ) (f k : NamedVariable) → cell_at with_entry one ≡ Some f
+      → cell_at with_entry other ≡ Some k
       → is_of f.process f.variable k ≡ true → one ≡ other
   once-come one other f k has also key =
       elim (cases_eq one at) [
@@ -52,7 +53,7 @@ module _ (homes : ℕ) (cells : List Cell) (at : ℕ) (e : Named) (probed : IsPr
               | inr apart ↦
                   let same : f ≡ e = same-entry with_entry one at f e first has here in
                   let no = others other k apart (sym (there other apart) ∙ also) in
-                  absurd (both_ways _ no (subst (λ (x : Named). is_of x.process x.variable k ≡ true) same key))
+                  absurd (both_ways _ no (subst (λ (x : NamedVariable). is_of x.process x.variable k ≡ true) same key))
             ]
         | inr apart ↦
             elim (cases_eq other at) [
@@ -60,7 +61,7 @@ module _ (homes : ℕ) (cells : List Cell) (at : ℕ) (e : Named) (probed : IsPr
                   let same : k ≡ e = same-entry with_entry other at k e second also here in
                   let no = others one f apart (sym (there one apart) ∙ has) in
                   absurd (both_ways _ no
-                  (key-back f e (subst (λ (x : Named). is_of f.process f.variable x ≡ true) same key)))
+                  (key-back f e (subst (λ (x : NamedVariable). is_of f.process f.variable x ≡ true) same key)))
               | inr also_apart ↦
                   probed.once one other f k (sym (there one apart) ∙ has) (sym (there other also_apart) ∙ also) key
             ]
@@ -89,7 +90,7 @@ module _ (homes : ℕ) (cells : List Cell) (at : ℕ) (e : Named) (probed : IsPr
   }
 
   -- where the cell was empty, or had the key
-  pub names-come : ((f : Named) → cell_at cells at ≡ Some f → is_of e.process e.variable f ≡ true) → (q w : ℕ)
+  pub names-come : ((f : NamedVariable) → cell_at cells at ≡ Some f → is_of e.process e.variable f ≡ true) → (q w : ℕ)
       → name_in with_entry q w ≡ cond (is_of q w e) (Some e.name) (name_in cells q w)
   names-come was q w =
       elim (true_or_false (is_of q w e)) [
@@ -100,7 +101,7 @@ module _ (homes : ℕ) (cells : List Cell) (at : ℕ) (e : Named) (probed : IsPr
             same-names cells with_entry q w probed.once once-come
             (λ n has. elim (cases_eq has.0 at) [
               | inl same ↦
-                  absurd (both_ways _ not (subst (λ (x : Named). is_of q w x ≡ true)
+                  absurd (both_ways _ not (subst (λ (x : NamedVariable). is_of q w x ≡ true)
                   (same-entry with_entry has.0 at has.1 e same has.2 here) has.3))
               | inr apart ↦ (has.0, has.1, sym (there has.0 apart) ∙ has.2, has.3, has.4)
             ])
@@ -113,7 +114,7 @@ module _ (homes : ℕ) (cells : List Cell) (at : ℕ) (e : Named) (probed : IsPr
             ∙ sym (ap (λ b. cond b (Some e.name) (name_in cells q w)) not)
       ]
 
-  pub entries-renamed : (f : Named) → cell_at cells at ≡ Some f → entries with_entry ≡ entries cells
+  pub entries-renamed : (f : NamedVariable) → cell_at cells at ≡ Some f → entries with_entry ≡ entries cells
   entries-renamed f some =
       let step = sum_by-set weight cells at (Some e) None within in
       let was : weight (get_or cells at None) ≡ 1 = ap weight some in
@@ -121,7 +122,7 @@ module _ (homes : ℕ) (cells : List Cell) (at : ℕ) (e : Named) (probed : IsPr
 
 -- ---- an entry goes
 
-module _ (homes : ℕ) (cells : List Cell) (at : ℕ) (e : Named) (probed : IsProbed homes cells)
+module _ (homes : ℕ) (cells : List Cell) (at : ℕ) (e : NamedVariable) (probed : IsProbed homes cells)
     (is : cell_at cells at ≡ Some e) (within : at < length cells) where
   abbrev pub without_entry : List Cell
   without_entry = set cells at None
@@ -129,14 +130,14 @@ module _ (homes : ℕ) (cells : List Cell) (at : ℕ) (e : Named) (probed : IsPr
   gone : cell_at without_entry at ≡ None
   gone = cell-set_at cells at None within
 
-  left : (place : ℕ) (f : Named) → cell_at without_entry place ≡ Some f → (place ≡ at → ⊥)
+  left : (place : ℕ) (f : NamedVariable) → cell_at without_entry place ≡ Some f → (place ≡ at → ⊥)
       × (cell_at cells place ≡ Some f)
   left place f has =
       let apart = λ (same : place ≡ at).
       both_ways _ (ap is_some (ap (cell_at without_entry) same ∙ gone)) (filled-some without_entry place f has) in
       (apart, sym (cell-set_other cells at place None apart) ∙ has)
 
-  pub once-left : (one other : ℕ) (f k : Named) → cell_at without_entry one ≡ Some f
+  pub once-left : (one other : ℕ) (f k : NamedVariable) → cell_at without_entry one ≡ Some f
       → cell_at without_entry other ≡ Some k
       → is_of f.process f.variable k ≡ true → one ≡ other
   once-left one other f k has also key = probed.once one other f k (left one f has).1 (left other k also).1 key
@@ -167,7 +168,7 @@ module _ (homes : ℕ) (cells : List Cell) (at : ℕ) (e : Named) (probed : IsPr
             (λ n has. (has.0, has.1, (left has.0 has.1 has.2).1, has.3, has.4))
             (λ n has. elim (cases_eq has.0 at) [
               | inl same ↦
-                  absurd (both_ways _ not (subst (λ (x : Named). is_of q w x ≡ true)
+                  absurd (both_ways _ not (subst (λ (x : NamedVariable). is_of q w x ≡ true)
                   (same-entry cells has.0 at has.1 e same has.2 is) has.3))
               | inr apart ↦ (has.0, has.1, cell-set_other cells at has.0 None apart ∙ has.2, has.3, has.4)
             ])
@@ -188,8 +189,9 @@ module _ (homes : ℕ) (cells : List Cell) (at : ℕ) (e : Named) (probed : IsPr
       omega (arith, step, was)
 
 -- the other cells have other keys than one that has this key
-pub others-apart : (homes p v at : ℕ) (cells : List Cell) (e : Named) → IsProbed homes cells → cell_at cells at ≡ Some e
-    → is_of p v e ≡ true → (place : ℕ) (f : Named) → (place ≡ at → ⊥) → cell_at cells place ≡ Some f
+pub others-apart : (homes p v at : ℕ) (cells : List Cell) (e : NamedVariable) → IsProbed homes cells
+    → cell_at cells at ≡ Some e
+    → is_of p v e ≡ true → (place : ℕ) (f : NamedVariable) → (place ≡ at → ⊥) → cell_at cells place ≡ Some f
     → is_of p v f ≡ false
 others-apart homes p v at cells e probed is of place f apart has =
     false_from_ne_true (is_of p v f) (λ key. apart (sym (probed.once at place e f is has (one-key p v e f of key))))
@@ -213,14 +215,14 @@ all-filled (c ∷ cells) (suc from) filled =
 -- ---- keys
 
 -- an entry of a key has another key exactly where the two are one
-pub key-same : (p v q w : ℕ) (e : Named) → is_of p v e ≡ true → is_of q w e ≡ (eqb p q && eqb v w)
+pub key-same : (p v q w : ℕ) (e : NamedVariable) → is_of p v e ≡ true → is_of q w e ≡ (eqb p q && eqb v w)
 key-same p v q w e of =
     ap (λ k. eqb k q && eqb e.variable w) (same-process p v e of)
     ∙ ap (λ k. eqb p q && eqb k w) (same-variable p v e of)
 
 -- where no cell has the key, the name of a variable stays though that is unbound
 pub none-name_in : (cells : List Cell) (p v q w : ℕ)
-    → ((place : ℕ) (e : Named) → cell_at cells place ≡ Some e → is_of p v e ≡ false)
+    → ((place : ℕ) (e : NamedVariable) → cell_at cells place ≡ Some e → is_of p v e ≡ false)
     → name_in cells q w ≡ cond (eqb p q && eqb v w) None (name_in cells q w)
 none-name_in cells p v q w none = at (name_in cells q w) refl
   where
@@ -239,7 +241,7 @@ none-name_in cells p v q w none = at (name_in cells q w) refl
 
 -- where no cell has the key, the variable has no name
 pub nothing-named : (cells : List Cell) (p v : ℕ)
-    → ((place : ℕ) (e : Named) → cell_at cells place ≡ Some e → is_of p v e ≡ false) → name_in cells p v ≡ None
+    → ((place : ℕ) (e : NamedVariable) → cell_at cells place ≡ Some e → is_of p v e ≡ false) → name_in cells p v ≡ None
 nothing-named cells p v none = at (name_in cells p v) refl
   where
     at : (o : Option ℕ) → name_in cells p v ≡ o → o ≡ None

@@ -5,7 +5,7 @@ use Rattle.std.proofs.lemmas.Bool.{both_ways, cases_eq, cases_lt}
 use Rattle.std.proofs.lemmas.List.{get_or_past, get_or-take, length-take, take_more}
 use Rattle.std.proofs.lemmas.List.Sums.{sum_by-append, sum_by-cons, sum_by-take-le}
 use Rattle.nomos_slots.specs.Cells.{Cell, IsOnce, IsProbed, cell_at, entries, is_of, name_in, with_cell}
-use Rattle.nomos_slots.specs.declared.cells.Named.{Named}
+use Rattle.nomos_slots.specs.declared.cells.NamedVariable.{NamedVariable}
 use Rattle.nomos_slots.proofs.CellLemmas.{cell-set_at, cell-set_other, name-has, one-key, true_or_false, weight}
 use Rattle.nomos_slots.proofs.ProbeLemmas.{filled-some, filled-within}
 
@@ -13,7 +13,7 @@ use Rattle.nomos_slots.proofs.ProbeLemmas.{filled-some, filled-within}
 abbrev pub AreEmpty : List Cell → Type 0
 AreEmpty cells = (place : ℕ) → cell_at cells place ≡ None
 
-never : (cells : List Cell) → AreEmpty cells → (place : ℕ) (e : Named) → cell_at cells place ≡ Some e → ⊥
+never : (cells : List Cell) → AreEmpty cells → (place : ℕ) (e : NamedVariable) → cell_at cells place ≡ Some e → ⊥
 never cells empty place e is = both_ways _ (ap is_some (empty place)) (filled-some cells place e is)
 
 pub empty-push : (cells : List Cell) → AreEmpty cells → AreEmpty (cells ++ None ∷ [])
@@ -76,8 +76,8 @@ either-first true true x y z not = absurd (not refl refl)
 either-first true false x y z not = refl
 either-first false b x y z not = refl
 
-pub name-push : (cells : List Cell) (e : Named) (p v : ℕ)
-    → ((place : ℕ) (f : Named) → cell_at cells place ≡ Some f → is_of e.process e.variable f ≡ false)
+pub name-push : (cells : List Cell) (e : NamedVariable) (p v : ℕ)
+    → ((place : ℕ) (f : NamedVariable) → cell_at cells place ≡ Some f → is_of e.process e.variable f ≡ false)
     → name_in (cells ++ Some e ∷ []) p v ≡ cond (is_of p v e) (Some e.name) (name_in cells p v)
 name-push [] e p v apart = refl
 name-push (None ∷ cells) e p v apart = name-push cells e p v (λ place f is. apart (suc place) f is)
@@ -87,8 +87,8 @@ name-push (Some f ∷ cells) e p v apart =
     (λ one other. both_ways _ (apart 0 f refl) (one-key p v e f other one))
 
 -- the cells before a place have other keys than the entry there
-pub apart-before : (cells : List Cell) (at : ℕ) (e : Named) → IsOnce cells → cell_at cells at ≡ Some e
-    → (place : ℕ) (f : Named) → cell_at (take at cells) place ≡ Some f → is_of e.process e.variable f ≡ false
+pub apart-before : (cells : List Cell) (at : ℕ) (e : NamedVariable) → IsOnce cells → cell_at cells at ≡ Some e
+    → (place : ℕ) (f : NamedVariable) → cell_at (take at cells) place ≡ Some f → is_of e.process e.variable f ≡ false
 apart-before cells at e once is place f has =
     elim (cases_lt place at) [
       | inl l ↦
@@ -104,7 +104,7 @@ apart-before cells at e once is place f has =
     ]
 
 name-next : (cells : List Cell) (c : Cell) (p v : ℕ)
-    → ((e : Named) → c ≡ Some e → (place : ℕ) (f : Named) → cell_at cells place ≡ Some f
+    → ((e : NamedVariable) → c ≡ Some e → (place : ℕ) (f : NamedVariable) → cell_at cells place ≡ Some f
     → is_of e.process e.variable f ≡ false)
     → name_in (cells ++ c ∷ []) p v ≡ with_cell c p v (name_in cells p v)
 name-next cells None p v apart = name-push_none cells p v

@@ -7,7 +7,7 @@ use Rattle.std.proofs.lemmas.Bool.Decides.{eqb_tells}
 use Rattle.std.proofs.lemmas.List.{get_or_past}
 use Rattle.std.proofs.lemmas.Nat.Bits.{bit_at-zero}
 use Rattle.nomos_slots.specs.Levels.{AreLevels, IsLonger, Tells, bit_in, ground, has_bit, is_some_word, places_in}
-use Rattle.nomos_slots.specs.Lowest.{IsLowest}
+use Rattle.nomos_slots.specs.LowestPlace.{IsLowest}
 
 -- ---- one level
 

@@ -4,7 +4,7 @@ use Rattle.std.proofs.lemmas.Bool.{cases_eq, cases_lt, eqb-false, eq-eqb, ne_eqb
 use Rattle.std.proofs.lemmas.List.{map-set, at_drop_more, get_or-set_same, get_or-set_other, get_or-take, get_or_past, set-set, set_comm, set-get_or, length-map, length-set, length-take, take-map}
 use Rattle.std.proofs.lemmas.List.Folds.{list_any-append, list_any_none}
 use Rattle.nomos_slots.specs.Log.{is_kept, is_logged, IsBelow, IsKeptAsLogged, IsOnce, put_back, records, unkept}
-use Rattle.nomos_slots.specs.declared.column.Entry.{Entry}
+use Rattle.nomos_slots.specs.declared.column.Logged.{Logged}
 
 pub or_false : (b : Bool) → (b || false) ≡ b
 or_false true = refl
@@ -76,12 +76,12 @@ module _ {X : Type 0} where
       ∙ put_back_first next log at x d parts.1
 
   -- one record of the log is put back
-  pub put_back_more : (es : List (Entry X)) (log : List (ℕ × X)) (i : ℕ) (saved : ℕ × X) (e : Entry X)
+  pub put_back_more : (es : List (Logged X)) (log : List (ℕ × X)) (i : ℕ) (saved : ℕ × X) (e : Logged X)
       → i < length log → saved ≡ get_or log i saved → e.item ≡ saved.1
       → put_back (records (set es saved.0 e)) (drop (i + 1) log) ≡ put_back (records es) (drop i log)
   put_back_more es log i saved e l at is =
       let rest = drop (i + 1) log in
-      ap (λ ys. put_back ys rest) (map-set (λ (x : Entry X). x.item) es saved.0 e)
+      ap (λ ys. put_back ys rest) (map-set (λ (x : Logged X). x.item) es saved.0 e)
       ∙ ap (λ (y : X). put_back (set (records es) saved.0 y) rest) is
       ∙ ap (λ (s : ℕ × X). put_back (records es) (s ∷ rest)) at
       ∙ sym (at_drop_more (put_back (records es)) log i saved l)
@@ -89,28 +89,28 @@ module _ {X : Type 0} where
   -- ---- what is kept
 
   -- for each entry, whether it is kept
-  abbrev flags : List (Entry X) → List Bool
+  abbrev flags : List (Logged X) → List Bool
   flags es = map (λ e. e.kept) es
 
-  flags-set : (es : List (Entry X)) (at : ℕ) (e : Entry X) → flags (set es at e) ≡ set (flags es) at e.kept
-  flags-set es at e = map-set (λ (x : Entry X). x.kept) es at e
+  flags-set : (es : List (Logged X)) (at : ℕ) (e : Logged X) → flags (set es at e) ≡ set (flags es) at e.kept
+  flags-set es at e = map-set (λ (x : Logged X). x.kept) es at e
 
-  is_kept-set_at : (es : List (Entry X)) (at : ℕ) (e : Entry X) → at < length es → is_kept (set es at e) at ≡ e.kept
+  is_kept-set_at : (es : List (Logged X)) (at : ℕ) (e : Logged X) → at < length es → is_kept (set es at e) at ≡ e.kept
   is_kept-set_at es at e within =
       let l : at < length (flags es) = rw length-map within in
       ap (λ ks. get_or ks at false) (flags-set es at e) ∙ get_or-set_same (flags es) at e.kept false l
 
-  is_kept-set_other : (es : List (Entry X)) (at place : ℕ) (e : Entry X) → (place ≡ at → ⊥)
+  is_kept-set_other : (es : List (Logged X)) (at place : ℕ) (e : Logged X) → (place ≡ at → ⊥)
       → is_kept (set es at e) place ≡ is_kept es place
   is_kept-set_other es at place e ne =
       ap (λ ks. get_or ks place false) (flags-set es at e) ∙ get_or-set_other (flags es) at place e.kept false ne
 
   -- what is kept is still in the log
-  abbrev pub IsKeptIn : List (ℕ × X) → List (Entry X) → Type 0
+  abbrev pub IsKeptIn : List (ℕ × X) → List (Logged X) → Type 0
   IsKeptIn log es = (place : ℕ) → is_kept es place ≡ true → is_logged log place ≡ true
 
   -- one record less is in the log, and is kept
-  pub kept_more : (es : List (Entry X)) (log : List (ℕ × X)) (i : ℕ) (saved : ℕ × X) (e : Entry X)
+  pub kept_more : (es : List (Logged X)) (log : List (ℕ × X)) (i : ℕ) (saved : ℕ × X) (e : Logged X)
       → i < length log → saved ≡ get_or log i saved → saved.0 < length es → e.kept ≡ false
       → IsKeptIn (drop i log) es → IsKeptIn (drop (i + 1) log) (set es saved.0 e)
   kept_more es log i saved e l at within is old place h =
@@ -130,10 +130,10 @@ module _ {X : Type 0} where
       ]
 
   -- the first entries, where those that are left out are not in the log
-  pub is_kept-take : (es : List (Entry X)) (log : List (ℕ × X)) (n m : ℕ)
+  pub is_kept-take : (es : List (Logged X)) (log : List (ℕ × X)) (n m : ℕ)
       → IsBelow n log → n ≤ m → IsKeptAsLogged es log → IsKeptAsLogged (take m es) log
   is_kept-take es log n m below within kept place =
-      ap (λ ks. get_or ks place false) (sym (take-map (λ (x : Entry X). x.kept) m es))
+      ap (λ ks. get_or ks place false) (sym (take-map (λ (x : Logged X). x.kept) m es))
       ∙ elim (cases_lt place m) [
         | inl l ↦ get_or-take m (flags es) place false l ∙ kept place
         | inr past ↦
@@ -141,7 +141,7 @@ module _ {X : Type 0} where
             ∙ sym (not_logged_past log n place below (omega arith))
       ]
 
-  pub is_kept-push : (es : List (Entry X)) (log : List (ℕ × X)) (at : ℕ) (x : X) (e : Entry X)
+  pub is_kept-push : (es : List (Logged X)) (log : List (ℕ × X)) (at : ℕ) (x : X) (e : Logged X)
       → at < length es → e.kept ≡ true → IsKeptAsLogged es log → IsKeptAsLogged (set es at e) (log ++ (at, x) ∷ [])
   is_kept-push es log at x e within is kept place =
       elim (cases_eq place at) [
@@ -158,11 +158,11 @@ module _ {X : Type 0} where
             ∙ sym (is_logged-push log at place x)
       ]
 
-  pub records-unkept : (es : List (Entry X)) → records (map unkept es) ≡ records es
+  pub records-unkept : (es : List (Logged X)) → records (map unkept es) ≡ records es
   records-unkept [] = refl
   records-unkept (e ∷ es) = ap (λ xs. e.item ∷ xs) (records-unkept es)
 
-  pub is_kept-unkept : (es : List (Entry X)) (place : ℕ) → is_kept (map unkept es) place ≡ false
+  pub is_kept-unkept : (es : List (Logged X)) (place : ℕ) → is_kept (map unkept es) place ≡ false
   is_kept-unkept [] place = refl
   is_kept-unkept (e ∷ es) zero = refl
   is_kept-unkept (e ∷ es) (suc place) = is_kept-unkept es place

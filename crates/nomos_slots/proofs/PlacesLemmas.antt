@@ -7,8 +7,8 @@ use Rattle.std.proofs.lemmas.List.{ext_get_or, get_or_past}
 use Rattle.std.proofs.lemmas.List.FromFn.{length-map-range_with_len, get_or-map-range_with_len, map-range_with_len_more, take-map-range_with_len}
 use Rattle.nomos_slots.specs.Clearing.{Clears}
 use Rattle.nomos_slots.specs.Levels.{IsPut, bit_in}
-use Rattle.nomos_slots.specs.Lowest.{IsLowest, IsLowestSet, is_set_in}
-use Rattle.nomos_slots.specs.Places.{set_below}
+use Rattle.nomos_slots.specs.LowestPlace.{IsLowest, IsLowestSet, is_set_in}
+use Rattle.nomos_slots.specs.PlaceSets.{set_below}
 
 pub length-set_below : (words : List ℕ) (len : ℕ) → length (set_below words len) ≡ len
 length-set_below words len = length-map-range_with_len (bit_in words) 0 len

@@ -8,44 +8,46 @@ use Rattle.std.proofs.Math.ListN.{drop_of_length-le}
 use Rattle.nomos_slots.proofs.CellLemmas.{true_or_false}
 use Rattle.nomos_slots.proofs.LogLemmas.{or_false}
 use Rattle.nomos_slots.specs.Rows.{IsCovered, covers, flags_of, has_all, is_freed, place_of, rows_of, undo, undone}
-use Rattle.nomos_slots.specs.declared.shelf.Row.{Row}
-use Rattle.nomos_slots.specs.declared.shelf.Step.{Step}
-use Rattle.nomos_slots.specs.declared.shelf.Step.TheVariants as step
+use Rattle.nomos_slots.specs.declared.shelf.ShelfRow.{ShelfRow}
+use Rattle.nomos_slots.specs.declared.shelf.ShelfStep.{ShelfStep}
+use Rattle.nomos_slots.specs.declared.shelf.ShelfStep.TheVariants as step
 
 module _ {X : Type 0} where
   -- ---- one row is changed
 
-  pub rows-set : (rows : List (Row X)) (at : ℕ) (r : Row X)
+  pub rows-set : (rows : List (ShelfRow X)) (at : ℕ) (r : ShelfRow X)
       → rows_of (set rows at r) ≡ set (rows_of rows) at r.items.items
-  rows-set rows at r = map-set (λ (r : Row X). r.items.items) rows at r
+  rows-set rows at r = map-set (λ (r : ShelfRow X). r.items.items) rows at r
 
-  pub row-read : (rows : List (Row X)) (at : ℕ) (r : Row X) → at < length rows → r ≡ get_or rows at r
+  pub row-read : (rows : List (ShelfRow X)) (at : ℕ) (r : ShelfRow X) → at < length rows → r ≡ get_or rows at r
       → get_or (rows_of rows) at [] ≡ r.items.items
   row-read rows at r l read =
-      get_or-map (λ (r : Row X). r.items.items) rows at r [] l ∙ ap (λ (r : Row X). r.items.items) (sym read)
+      get_or-map (λ (r : ShelfRow X). r.items.items) rows at r [] l ∙ ap (λ (r : ShelfRow X). r.items.items) (sym read)
 
-  pub is_freed-read : (rows : List (Row X)) (at : ℕ) (r : Row X) → at < length rows → r ≡ get_or rows at r
+  pub is_freed-read : (rows : List (ShelfRow X)) (at : ℕ) (r : ShelfRow X) → at < length rows → r ≡ get_or rows at r
       → is_freed rows at ≡ r.freed
   is_freed-read rows at r l read =
-      get_or-map (λ (r : Row X). r.freed) rows at r false l ∙ ap (λ (r : Row X). r.freed) (sym read)
+      get_or-map (λ (r : ShelfRow X). r.freed) rows at r false l ∙ ap (λ (r : ShelfRow X). r.freed) (sym read)
 
-  flags-set : (rows : List (Row X)) (at : ℕ) (r : Row X) → flags_of (set rows at r) ≡ set (flags_of rows) at r.freed
-  flags-set rows at r = map-set (λ (r : Row X). r.freed) rows at r
+  flags-set : (rows : List (ShelfRow X)) (at : ℕ) (r : ShelfRow X)
+      → flags_of (set rows at r) ≡ set (flags_of rows) at r.freed
+  flags-set rows at r = map-set (λ (r : ShelfRow X). r.freed) rows at r
 
-  pub is_freed-set_at : (rows : List (Row X)) (at : ℕ) (r : Row X) → at < length rows
+  pub is_freed-set_at : (rows : List (ShelfRow X)) (at : ℕ) (r : ShelfRow X) → at < length rows
       → is_freed (set rows at r) at ≡ r.freed
   is_freed-set_at rows at r within =
       let l : at < length (flags_of rows) = rw length-map within in
       ap (λ fs. get_or fs at false) (flags-set rows at r) ∙ get_or-set_same (flags_of rows) at r.freed false l
 
-  pub is_freed-set_other : (rows : List (Row X)) (at place : ℕ) (r : Row X) → (place ≡ at → ⊥)
+  pub is_freed-set_other : (rows : List (ShelfRow X)) (at place : ℕ) (r : ShelfRow X) → (place ≡ at → ⊥)
       → is_freed (set rows at r) place ≡ is_freed rows place
   is_freed-set_other rows at place r ne =
       ap (λ fs. get_or fs place false) (flags-set rows at r) ∙ get_or-set_other (flags_of rows) at place r.freed false
       ne
 
   -- a row with the same flag
-  pub is_freed-set_same : (rows : List (Row X)) (at place : ℕ) (r s : Row X) → at < length rows → s ≡ get_or rows at s
+  pub is_freed-set_same : (rows : List (ShelfRow X)) (at place : ℕ) (r s : ShelfRow X) → at < length rows
+      → s ≡ get_or rows at s
       → r.freed ≡ s.freed → is_freed (set rows at r) place ≡ is_freed rows place
   is_freed-set_same rows at place r s within read same =
       elim (cases_eq place at) [
@@ -56,7 +58,7 @@ module _ {X : Type 0} where
       ]
 
   -- a row that is put back is not freed
-  pub freed-replaced : (rows : List (Row X)) (at place : ℕ) (r : Row X) (e : Step X) → at < length rows
+  pub freed-replaced : (rows : List (ShelfRow X)) (at place : ℕ) (r : ShelfRow X) (e : ShelfStep X) → at < length rows
       → r.freed ≡ false
       → is_freed (set rows at r) place ≡ true → has_all place e ≡ eqb at place
       → (is_freed rows place ≡ true) × (has_all place e ≡ false)
@@ -73,21 +75,21 @@ module _ {X : Type 0} where
 
   -- ---- the log is undone
 
-  pub undo-push : (log : List (Step X)) (e : Step X) (rows : List (List X))
+  pub undo-push : (log : List (ShelfStep X)) (e : ShelfStep X) (rows : List (List X))
       → undo (log ++ e ∷ []) rows ≡ undo log (undone e rows)
   undo-push [] e rows = refl
   undo-push (s ∷ log) e rows = ap (undone s) (undo-push log e rows)
 
-  length-undone : (e : Step X) (rows : List (List X)) → length (undone e rows) ≡ length rows
+  length-undone : (e : ShelfStep X) (rows : List (List X)) → length (undone e rows) ≡ length rows
   length-undone (step.Added place at) rows = length-set rows place _
   length-undone (step.Replaced place row) rows = length-set rows place row.items
 
-  pub length-undo : (log : List (Step X)) (rows : List (List X)) → length (undo log rows) ≡ length rows
+  pub length-undo : (log : List (ShelfStep X)) (rows : List (List X)) → length (undo log rows) ≡ length rows
   length-undo [] rows = refl
   length-undo (s ∷ log) rows = length-undone s (undo log rows) ∙ length-undo log rows
 
   -- one row is another before a step, where it is another after it
-  undone-other : (e : Step X) (rows : List (List X)) (p : ℕ) (y : List X) → p < length rows
+  undone-other : (e : ShelfStep X) (rows : List (List X)) (p : ℕ) (y : List X) → p < length rows
       → (z : List X) × (undone e (set rows p y) ≡ set (undone e rows) p z)
   undone-other (step.Added q at) rows p y within =
       elim (cases_eq q p) [
@@ -117,7 +119,7 @@ module _ {X : Type 0} where
         | inr apart ↦ (y, set_comm rows p q y row.items (λ e. apart (sym e)))
       ]
 
-  undo-other : (log : List (Step X)) (rows : List (List X)) (p : ℕ) (x : List X) → p < length rows
+  undo-other : (log : List (ShelfStep X)) (rows : List (List X)) (p : ℕ) (x : List X) → p < length rows
       → (z : List X) × (undo log (set rows p x) ≡ set (undo log rows) p z)
   undo-other [] rows p x within = (x, refl)
   undo-other (s ∷ log) rows p x within =
@@ -126,14 +128,14 @@ module _ {X : Type 0} where
       let (z, then) = undone-other s (undo log rows) p y l in
       (z, ap (undone s) before ∙ then)
 
-  undone-covered : (e : Step X) (rows : List (List X)) (p : ℕ) (y : List X) → has_all p e ≡ true
+  undone-covered : (e : ShelfStep X) (rows : List (List X)) (p : ℕ) (y : List X) → has_all p e ≡ true
       → undone e (set rows p y) ≡ undone e rows
   undone-covered (step.Added q at) rows p y has = absurd (false≢true has)
   undone-covered (step.Replaced q row) rows p y has =
       ap (λ k. set (set rows k y) q row.items) (sym (eqb-true q p has)) ∙ set-set rows q y row.items
 
   -- what stands meanwhile at a place that the log covers does not matter
-  pub undo-covered : (log : List (Step X)) (rows : List (List X)) (p : ℕ) (x : List X) → p < length rows
+  pub undo-covered : (log : List (ShelfStep X)) (rows : List (List X)) (p : ℕ) (x : List X) → p < length rows
       → covers log p ≡ true → undo log (set rows p x) ≡ undo log rows
   undo-covered [] rows p x within has = absurd (false≢true has)
   undo-covered (s ∷ log) rows p x within has =
@@ -148,16 +150,16 @@ module _ {X : Type 0} where
 
   -- ---- the rows that are covered
 
-  pub covers-push : (log : List (Step X)) (e : Step X) (place : ℕ)
+  pub covers-push : (log : List (ShelfStep X)) (e : ShelfStep X) (place : ℕ)
       → covers (log ++ e ∷ []) place ≡ (covers log place || (has_all place e || false))
   covers-push log e place = list_any-append (has_all place) log (e ∷ [])
 
-  has_all-other : (e : Step X) (q : ℕ) → (q ≡ place_of e → ⊥) → has_all q e ≡ false
+  has_all-other : (e : ShelfStep X) (q : ℕ) → (q ≡ place_of e → ⊥) → has_all q e ≡ false
   has_all-other (step.Added p at) q apart = refl
   has_all-other (step.Replaced p row) q apart = ne_eqb p q (λ e. apart (sym e))
 
   -- one step less is in the log, and its row is freed no longer
-  pub covered-more : (rows : List (Row X)) (log : List (Step X)) (i : ℕ) (e : Step X) (r : Row X)
+  pub covered-more : (rows : List (ShelfRow X)) (log : List (ShelfStep X)) (i : ℕ) (e : ShelfStep X) (r : ShelfRow X)
       → i < length log → e ≡ get_or log i e → place_of e < length rows → r.freed ≡ false
       → IsCovered rows (drop i log) → IsCovered (set rows (place_of e) r) (drop (i + 1) log)
   covered-more rows log i e r l at within is old q freed =
@@ -170,12 +172,12 @@ module _ {X : Type 0} where
             let was : covers (drop i log) q ≡ true =
             old q (sym (is_freed-set_other rows (place_of e) q r apart) ∙ freed) in
             let split : covers (drop i log) q ≡ (has_all q e || rest) =
-            at_drop_more (λ some. covers some q) log i e l ∙ ap (λ (s : Step X). has_all q s || rest) (sym at) in
+            at_drop_more (λ some. covers some q) log i e l ∙ ap (λ (s : ShelfStep X). has_all q s || rest) (sym at) in
             sym (ap (λ b. b || rest) (has_all-other e q apart)) ∙ sym split ∙ was
       ]
 
   -- the last step of the log is undone, and its row is freed no longer
-  pub covered-popped : (rows after : List (Row X)) (log rest : List (Step X)) (e : Step X)
+  pub covered-popped : (rows after : List (ShelfRow X)) (log rest : List (ShelfStep X)) (e : ShelfStep X)
       → log ≡ rest ++ e ∷ [] → IsCovered rows log
       → ((q : ℕ) → is_freed after q ≡ true → (is_freed rows q ≡ true) × (has_all q e ≡ false)) → IsCovered after rest
   covered-popped rows after log rest e split covered was q freed =
@@ -183,13 +185,14 @@ module _ {X : Type 0} where
       sym (ap (λ b. covers rest q || (b || false)) other ∙ or_false (covers rest q))
       ∙ sym (covers-push rest e q) ∙ ap (λ some. covers some q) (sym split) ∙ covered q before
 
-  pub undo-popped : (log rest : List (Step X)) (e : Step X) (rows after : List (List X))
+  pub undo-popped : (log rest : List (ShelfStep X)) (e : ShelfStep X) (rows after : List (List X))
       → log ≡ rest ++ e ∷ [] → after ≡ undone e rows → undo rest after ≡ undo log rows
   undo-popped log rest e rows after split is =
       ap (undo rest) is ∙ sym (undo-push rest e rows) ∙ ap (λ some. undo some rows) (sym split)
 
   -- where the log is gone over, nothing is freed
-  pub none-freed : (rows : List (Row X)) (log : List (Step X)) (i : ℕ) → length log ≤ i → IsCovered rows (drop i log)
+  pub none-freed : (rows : List (ShelfRow X)) (log : List (ShelfStep X)) (i : ℕ) → length log ≤ i
+      → IsCovered rows (drop i log)
       → (place : ℕ) → is_freed rows place ≡ false
   none-freed rows log i past covered place =
       false_from_ne_true (is_freed rows place)

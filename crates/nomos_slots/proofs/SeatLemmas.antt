@@ -8,7 +8,7 @@ use Rattle.std.proofs.lemmas.List.{length-append, length-map}
 use Rattle.std.proofs.lemmas.List.Elements.{All-push}
 use Rattle.std.proofs.lemmas.Map.Steps.{length-le_from_distinct_below}
 use Rattle.nomos_slots.specs.Log.{is_kept, is_logged, mark_len, marking_of, HasSeat, IsBelow, IsOnce, IsSound}
-use Rattle.nomos_slots.specs.declared.column.Entry.{Entry}
+use Rattle.nomos_slots.specs.declared.column.Logged.{Logged}
 use Rattle.nomos_slots.proofs.LogLemmas.{not_logged_past, IsOnce-push}
 
 eqb-other_way : (a b : ℕ) → eqb a b ≡ eqb b a
@@ -51,7 +51,7 @@ module _ {X : Type 0} where
       omega (arith, few, length-map log (λ (s : ℕ × X). s.0))
 
   -- a place that is to be logged finds a seat
-  pub seat-there : (es : Vec (Entry X)) (log : Vec (ℕ × X)) (marked : Option ℕ) (at : ℕ) (x : X)
+  pub seat-there : (es : Vec (Logged X)) (log : Vec (ℕ × X)) (marked : Option ℕ) (at : ℕ) (x : X)
       → IsSound es.items log.items marked → at < mark_len marked → is_kept es.items at ≡ false
       → HasSeat (marking_of es log marked) → vec_len log < vec_capacity log
   seat-there es log marked at x sound within not seat =
@@ -67,12 +67,12 @@ module _ {X : Type 0} where
               length-append log.items ((at, x) ∷ []),
               sound.within,
               log.ok.0,
-              length-map es.items (λ (e : Entry X). e.item),
+              length-map es.items (λ (e : Logged X). e.item),
             )
       ]
 
   -- one more record that is to be logged leaves the log no longer than what is marked
-  pub one-more : (es : List (Entry X)) (log : List (ℕ × X)) (marked : Option ℕ) (at : ℕ) (x : X)
+  pub one-more : (es : List (Logged X)) (log : List (ℕ × X)) (marked : Option ℕ) (at : ℕ) (x : X)
       → IsSound es log marked → at < mark_len marked → is_kept es at ≡ false → length log + 1 ≤ length es
   one-more es log marked at x sound within not =
       let once = IsOnce-push log at x (sym (sound.kept at) ∙ not) sound.once in
@@ -80,13 +80,13 @@ module _ {X : Type 0} where
       let few : length (log ++ (at, x) ∷ []) ≤ mark_len marked = length-below _ _ once below in
       omega (arith, few, length-append log ((at, x) ∷ []), sound.within)
 
-  pub log-within : (es : List (Entry X)) (log : List (ℕ × X)) (marked : Option ℕ)
+  pub log-within : (es : List (Logged X)) (log : List (ℕ × X)) (marked : Option ℕ)
       → IsSound es log marked → length log ≤ length es
   log-within es log marked sound =
       let few : length log ≤ mark_len marked = length-below log _ sound.once sound.below in
       omega (arith, sound.within)
 
   -- past the mark nothing is kept
-  pub not_kept_past : (es : List (Entry X)) (log : List (ℕ × X)) (marked : Option ℕ) (at : ℕ)
+  pub not_kept_past : (es : List (Logged X)) (log : List (ℕ × X)) (marked : Option ℕ) (at : ℕ)
       → IsSound es log marked → mark_len marked ≤ at → is_kept es at ≡ false
   not_kept_past es log marked at sound past = sound.kept at ∙ not_logged_past log _ at sound.below past

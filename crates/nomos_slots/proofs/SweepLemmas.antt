@@ -5,7 +5,7 @@ use Rattle.std.proofs.lemmas.Bool.{and_from, both_ways, cases_eq}
 use Rattle.std.proofs.lemmas.List.Sums.{sum_by-cons}
 use Rattle.nomos_slots.specs.Cells.{Cell, IsOnce, IsProbed, cell_at, entries, home, home_of, is_filled, is_of, name_in}
 use Rattle.nomos_slots.specs.Sweeps.{instead_of, renamed_cell}
-use Rattle.nomos_slots.specs.declared.cells.Named.{Named}
+use Rattle.nomos_slots.specs.declared.cells.NamedVariable.{NamedVariable}
 use Rattle.nomos_slots.proofs.CellLemmas.{none-name, true_or_false, weight}
 use Rattle.nomos_slots.proofs.EntryLemmas.{nothing-named}
 use Rattle.nomos_slots.proofs.ProbeLemmas.{same-process}
@@ -14,7 +14,7 @@ use Rattle.nomos_slots.proofs.ProbeLemmas.{same-process}
 
 -- where no entry is of the process, its variables have no names
 pub nobody-named : (cells : List Cell) (process : ℕ)
-    → ((place : ℕ) (e : Named) → cell_at cells place ≡ Some e → eqb e.process process ≡ false)
+    → ((place : ℕ) (e : NamedVariable) → cell_at cells place ≡ Some e → eqb e.process process ≡ false)
     → (p v : ℕ) → process ≡ p → name_in cells p v ≡ None
 nobody-named cells process none p v same =
     nothing-named cells p v
@@ -22,7 +22,7 @@ nobody-named cells process none p v same =
     ap (λ b. b && eqb e.variable v) (subst (λ q. eqb e.process q ≡ false) same (none place e is)))
 
 -- an entry of the process that is there names its variable
-pub entry-named : (cells : List Cell) (place : ℕ) (e : Named) (process : ℕ) → cell_at cells place ≡ Some e
+pub entry-named : (cells : List Cell) (place : ℕ) (e : NamedVariable) (process : ℕ) → cell_at cells place ≡ Some e
     → eqb e.process process ≡ true → IsSome (name_in cells process e.variable)
 entry-named cells place e process is of = at (name_in cells process e.variable) refl
   where
@@ -39,27 +39,27 @@ module _ (process old new : ℕ) where
   renamed_cells cells = map (renamed_cell process old new) cells
 
   -- the entry under the other name
-  abbrev renamed_entry : Bool → Named → Named
+  abbrev renamed_entry : Bool → NamedVariable → NamedVariable
   renamed_entry b e = cond b (record e { name = new }) e
 
-  renamed-process : (b : Bool) (e : Named) → (renamed_entry b e).process ≡ e.process
+  renamed-process : (b : Bool) (e : NamedVariable) → (renamed_entry b e).process ≡ e.process
   renamed-process true e = refl
   renamed-process false e = refl
 
-  renamed-variable : (b : Bool) (e : Named) → (renamed_entry b e).variable ≡ e.variable
+  renamed-variable : (b : Bool) (e : NamedVariable) → (renamed_entry b e).variable ≡ e.variable
   renamed-variable true e = refl
   renamed-variable false e = refl
 
-  renamed-name : (b : Bool) (e : Named) → (renamed_entry b e).name ≡ cond b new e.name
+  renamed-name : (b : Bool) (e : NamedVariable) → (renamed_entry b e).name ≡ cond b new e.name
   renamed-name true e = refl
   renamed-name false e = refl
 
-  renamed-key : (b : Bool) (e : Named) (p v : ℕ) → is_of p v (renamed_entry b e) ≡ is_of p v e
+  renamed-key : (b : Bool) (e : NamedVariable) (p v : ℕ) → is_of p v (renamed_entry b e) ≡ is_of p v e
   renamed-key true e p v = refl
   renamed-key false e p v = refl
 
   -- the name of an entry of a process of which this is asked
-  name-of : (e : Named) (p v : ℕ) → is_of p v e ≡ true
+  name-of : (e : NamedVariable) (p v : ℕ) → is_of p v e ≡ true
       → (renamed_entry (eqb e.process process && eqb e.name old) e).name
       ≡ cond (eqb process p) (instead_of old new e.name) e.name
   name-of e p v is =
@@ -113,13 +113,13 @@ module _ (process old new : ℕ) where
   filled-renamed (c ∷ cells) (suc place) = filled-renamed cells place
 
   -- the entry from which a renamed one comes
-  pub record CameFrom (cells : List Cell) (place : ℕ) (e : Named) : Type 0 where
-    pub before : Named
+  pub record CameFrom (cells : List Cell) (place : ℕ) (e : NamedVariable) : Type 0 where
+    pub before : NamedVariable
     pub stood : cell_at cells place ≡ Some before
     pub its_process : before.process ≡ e.process
     pub its_variable : before.variable ≡ e.variable
 
-  came-first : (c : Cell) (cells : List Cell) (e : Named) → renamed_cell process old new c ≡ Some e
+  came-first : (c : Cell) (cells : List Cell) (e : NamedVariable) → renamed_cell process old new c ≡ Some e
       → CameFrom (c ∷ cells) zero e
   came-first None cells e is = absurd cc
   came-first (Some k) cells e is =
@@ -128,11 +128,11 @@ module _ (process old new : ℕ) where
       record {
         before = k;
         stood = refl;
-        its_process = sym (renamed-process b k) ∙ ap (λ (x : Named). x.process) same;
-        its_variable = sym (renamed-variable b k) ∙ ap (λ (x : Named). x.variable) same;
+        its_process = sym (renamed-process b k) ∙ ap (λ (x : NamedVariable). x.process) same;
+        its_variable = sym (renamed-variable b k) ∙ ap (λ (x : NamedVariable). x.variable) same;
       }
 
-  came-from : (cells : List Cell) (place : ℕ) (e : Named) → cell_at (renamed_cells cells) place ≡ Some e
+  came-from : (cells : List Cell) (place : ℕ) (e : NamedVariable) → cell_at (renamed_cells cells) place ≡ Some e
       → CameFrom cells place e
   came-from [] place e is = absurd cc
   came-from (c ∷ cells) zero e is = came-first c cells e is
@@ -146,7 +146,7 @@ module _ (process old new : ℕ) where
             rest.its_variable;
       }
 
-  home-from : (homes : ℕ) (cells : List Cell) (place : ℕ) (e : Named) (from : CameFrom cells place e)
+  home-from : (homes : ℕ) (cells : List Cell) (place : ℕ) (e : NamedVariable) (from : CameFrom cells place e)
       → home_of homes from.before ≡ home_of homes e
   home-from homes cells place e from =
       ap (λ p. home homes p from.before.variable) from.its_process ∙ ap (λ v. home homes e.process v) from.its_variable

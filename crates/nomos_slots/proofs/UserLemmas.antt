@@ -4,14 +4,14 @@ use Rattle.std.proofs.lemmas.Bool.{cases_eq, eqb-false}
 use Rattle.std.specs.Option.{MatchOption}
 use Rattle.nomos_slots.specs.Cells.{Cell, IsOnce, cell_at, is_of}
 use Rattle.nomos_slots.specs.Users.{HasName, IsLowestUser, lower_user}
-use Rattle.nomos_slots.specs.declared.cells.Named.{Named}
+use Rattle.nomos_slots.specs.declared.cells.NamedVariable.{NamedVariable}
 use Rattle.nomos_slots.proofs.CellLemmas.{has-name, name-has, some-within}
 
 module _ (cells : List Cell) (name : ℕ) where
   -- an entry of the process in one of the first cells has the name
   pub record UsedBelow (at process : ℕ) : Type 0 where
     pub place : ℕ
-    pub entry : Named
+    pub entry : NamedVariable
     pub within : place < at
     pub there : cell_at cells place ≡ Some entry
     pub own : entry.process ≡ process
@@ -37,7 +37,8 @@ module _ (cells : List Cell) (name : ℕ) where
 
   -- an entry in one cell more is one of before, or the last one
   used-last : (at process : ℕ) → UsedBelow (at + 1) process
-      → UsedBelow at process ⊎ ((e : Named) × (cell_at cells at ≡ Some e) × (e.process ≡ process) × (e.name ≡ name))
+      → UsedBelow at process ⊎ ((e : NamedVariable) × (cell_at cells at ≡ Some e) × (e.process ≡ process)
+      × (e.name ≡ name))
   used-last at process used =
       elim (cases_eq used.place at) [
         | inl same ↦
@@ -54,7 +55,8 @@ module _ (cells : List Cell) (name : ℕ) where
 
   -- where the last cell has no such entry, nothing changes
   kept-lowest : (at : ℕ) (r : Option ℕ)
-      → ((e : Named) → cell_at cells at ≡ Some e → e.name ≡ name → ⊥) → LowestBelow at r → LowestBelow (at + 1) r
+      → ((e : NamedVariable) → cell_at cells at ≡ Some e → e.name ≡ name → ⊥) → LowestBelow at r
+      → LowestBelow (at + 1) r
   kept-lowest at None not none = λ process used.
       elim (used-last at process used) [
         | inl before ↦ none process before
@@ -69,7 +71,7 @@ module _ (cells : List Cell) (name : ℕ) where
         ],
   )
 
-  last-used : (at : ℕ) (e : Named) → cell_at cells at ≡ Some e → e.name ≡ name → UsedBelow (at + 1) e.process
+  last-used : (at : ℕ) (e : NamedVariable) → cell_at cells at ≡ Some e → e.name ≡ name → UsedBelow (at + 1) e.process
   last-used at e there named = record {
     place = at;
     entry = e;
@@ -79,14 +81,15 @@ module _ (cells : List Cell) (name : ℕ) where
     named = named;
   }
 
-  own-entry : (e f : Named) → Some e ≡ Some f → e.process ≡ f.process
-  own-entry e f same = let one : e ≡ f = cc in ap (λ (n : Named). n.process) one
+  own-entry : (e f : NamedVariable) → Some e ≡ Some f → e.process ≡ f.process
+  own-entry e f same = let one : e ≡ f = cc in ap (λ (n : NamedVariable). n.process) one
 
-  own-name : (e f : Named) → Some e ≡ Some f → e.name ≡ f.name
-  own-name e f same = let one : e ≡ f = cc in ap (λ (n : Named). n.name) one
+  own-name : (e f : NamedVariable) → Some e ≡ Some f → e.name ≡ f.name
+  own-name e f same = let one : e ≡ f = cc in ap (λ (n : NamedVariable). n.name) one
 
   -- an entry that has the name is taken where it is lower
-  met-lowest : (at : ℕ) (e : Named) (r : Option ℕ) → cell_at cells at ≡ Some e → e.name ≡ name → LowestBelow at r
+  met-lowest : (at : ℕ) (e : NamedVariable) (r : Option ℕ) → cell_at cells at ≡ Some e → e.name ≡ name
+      → LowestBelow at r
       → LowestBelow (at + 1) (lower_user name (Some e) r)
   met-lowest at e None there named none =
       subst (λ b. LowestBelow (at + 1) (cond b (Some e.process) None)) (sym (eq-eqb e.name name named)) (
@@ -121,7 +124,7 @@ module _ (cells : List Cell) (name : ℕ) where
   next-lowest at None r there below =
       kept-lowest at r (λ e is named. nothing e (sym is ∙ there)) below
     where
-      nothing : (e : Named) → Some e ≡ None → ⊥
+      nothing : (e : NamedVariable) → Some e ≡ None → ⊥
       nothing e is = cc
   next-lowest at (Some e) r there below = by_name (e.name == name) refl
     where
@@ -145,7 +148,7 @@ module _ (cells : List Cell) (name : ℕ) where
       let own : is_of process e.variable e ≡ true = own-key e process used.own in
       (e.variable, has-name cells process e.variable name once (used.place, e, used.there, own, used.named))
     where
-      own-key : (e : Named) (p : ℕ) → e.process ≡ p → is_of p e.variable e ≡ true
+      own-key : (e : NamedVariable) (p : ℕ) → e.process ≡ p → is_of p e.variable e ≡ true
       own-key e p same = ap (λ b. b && e.variable == e.variable) (eq-eqb e.process p same)
           ∙ eq-eqb e.variable e.variable refl
 

@@ -1,10 +1,10 @@
 -- Names by process and variable, in cells.
 use Rattle.std.specs.Prelude.{◌≡◌, ◌≤◌, ◌<◌, ◌==◌, ◌&&◌, ◌⊎◌, ◌+◌, ◌*◌, ◌/◌, ◌%◌, ◌^◌, ℕ, Bool, true, false, cond, List, [], ◌∷◌, length, slice_index_or, count_by, bit_xor, Option, Some, None, MatchOption, is_some}
-use Rattle.nomos_slots.specs.declared.cells.Named.{Named}
+use Rattle.nomos_slots.specs.declared.cells.NamedVariable.{NamedVariable}
 
 -- a cell, which is empty or has an entry
 abbrev pub Cell : Type 0
-Cell = Option Named
+Cell = Option NamedVariable
 
 -- what stands in a cell: nothing past the last one
 abbrev pub cell_at : List Cell → ℕ → Cell
@@ -14,7 +14,7 @@ abbrev pub is_filled : List Cell → ℕ → Bool
 is_filled cells place = is_some (cell_at cells place)
 
 -- whether the entry is of this variable of this process
-abbrev pub is_of : ℕ → ℕ → Named → Bool
+abbrev pub is_of : ℕ → ℕ → NamedVariable → Bool
 is_of process variable e = e.process == process && e.variable == variable
 
 -- the name that a variable of a process has: that of the first entry which is of it
@@ -44,19 +44,19 @@ scattered process variable =
 abbrev pub home : ℕ → ℕ → ℕ → ℕ
 home homes process variable = scattered process variable * homes / 2 ^ 64
 
-abbrev pub home_of : ℕ → Named → ℕ
+abbrev pub home_of : ℕ → NamedVariable → ℕ
 home_of homes e = home homes e.process e.variable
 
 -- No two entries are of the same variable of a process.
 abbrev pub IsOnce : List Cell → Type 0
-IsOnce cells = (one other : ℕ) (e f : Named) → cell_at cells one ≡ Some e → cell_at cells other ≡ Some f
+IsOnce cells = (one other : ℕ) (e f : NamedVariable) → cell_at cells one ≡ Some e → cell_at cells other ≡ Some f
     → is_of e.process e.variable f ≡ true → one ≡ other
 
 -- Each entry stands at its home or after it, with no empty cell between, and no two are of the same variable of a
 -- process.
 pub record IsProbed (homes : ℕ) (cells : List Cell) : Type 0 where
-  pub near : (place : ℕ) (e : Named) → cell_at cells place ≡ Some e → home_of homes e ≤ place
-  pub full : (at place : ℕ) (e : Named) → cell_at cells place ≡ Some e → home_of homes e ≤ at → at < place
+  pub near : (place : ℕ) (e : NamedVariable) → cell_at cells place ≡ Some e → home_of homes e ≤ place
+  pub full : (at place : ℕ) (e : NamedVariable) → cell_at cells place ≡ Some e → home_of homes e ≤ at → at < place
       → is_filled cells at ≡ true
   pub once : IsOnce cells
 
@@ -64,11 +64,11 @@ pub record IsProbed (homes : ℕ) (cells : List Cell) : Type 0 where
 pub record IsGap (homes : ℕ) (cells : List Cell) (hole next : ℕ) : Type 0 where
   pub before : hole < next
   pub empty : cell_at cells hole ≡ None
-  pub near : (place : ℕ) (e : Named) → cell_at cells place ≡ Some e → home_of homes e ≤ place
-  pub full : (at place : ℕ) (e : Named) → cell_at cells place ≡ Some e → home_of homes e ≤ at → at < place
+  pub near : (place : ℕ) (e : NamedVariable) → cell_at cells place ≡ Some e → home_of homes e ≤ place
+  pub full : (at place : ℕ) (e : NamedVariable) → cell_at cells place ≡ Some e → home_of homes e ≤ at → at < place
       → (at ≡ hole) ⊎ (is_filled cells at ≡ true)
   pub once : IsOnce cells
-  pub clear : (place : ℕ) (e : Named) → hole < place → place < next → cell_at cells place ≡ Some e
+  pub clear : (place : ℕ) (e : NamedVariable) → hole < place → place < next → cell_at cells place ≡ Some e
       → hole < home_of homes e
 
 -- the place of the entry of a variable of a process, and no place where there is none
@@ -76,8 +76,8 @@ abbrev pub IsPlaceIn : List Cell → ℕ → ℕ → Option ℕ → Type 0
 IsPlaceIn cells process variable result =
     MatchOption
     result
-    ((place : ℕ) (e : Named) → cell_at cells place ≡ Some e → is_of process variable e ≡ false)
-    (λ place. (e : Named) × (cell_at cells place ≡ Some e) × (is_of process variable e ≡ true))
+    ((place : ℕ) (e : NamedVariable) → cell_at cells place ≡ Some e → is_of process variable e ≡ false)
+    (λ place. (e : NamedVariable) × (cell_at cells place ≡ Some e) × (is_of process variable e ≡ true))
 
 -- the first empty cell from a place on, and none where all are filled
 abbrev pub IsEmptyFrom : List Cell → ℕ → Option ℕ → Type 0

@@ -5,7 +5,7 @@ use Rattle.std.specs.Option.{option_map}
 use Rattle.std.specs.Global.{Vec}
 use Rattle.std.specs.Vec.{vec_len, vec_capacity}
 use Rattle.nomos_slots.specs.Marking.{Marking}
-use Rattle.nomos_slots.specs.declared.column.Entry.{Entry}
+use Rattle.nomos_slots.specs.declared.column.Logged.{Logged}
 
 -- for how many more a vector has room
 abbrev pub spare_of : {Y : Type 0} → Vec Y → ℕ
@@ -18,15 +18,15 @@ mark_len (Some len) = len
 
 module _ {X : Type 0} where
   -- the records of entries
-  abbrev pub records : List (Entry X) → List X
+  abbrev pub records : List (Logged X) → List X
   records entries = map (λ e. e.item) entries
 
   -- the entry with the same record, of which the log has nothing
-  abbrev pub unkept : Entry X → Entry X
+  abbrev pub unkept : Logged X → Logged X
   unkept entry = record { item = entry.item; kept = false }
 
   -- whether the entry at this place says that the log has what stood there
-  abbrev pub is_kept : List (Entry X) → ℕ → Bool
+  abbrev pub is_kept : List (Logged X) → ℕ → Bool
   is_kept entries place = slice_index_or (map (λ e. e.kept) entries) place false
 
   -- whether the log has a record of this place
@@ -38,7 +38,7 @@ module _ {X : Type 0} where
   IsBelow len log = All (λ saved. saved.0 < len) log
 
   -- exactly the places of the log are kept in it
-  abbrev pub IsKeptAsLogged : List (Entry X) → List (ℕ × X) → Type 0
+  abbrev pub IsKeptAsLogged : List (Logged X) → List (ℕ × X) → Type 0
   IsKeptAsLogged entries log = (place : ℕ) → is_kept entries place ≡ is_logged log place
 
   -- the log has each place once
@@ -52,7 +52,7 @@ module _ {X : Type 0} where
   put_back items (saved ∷ log) = put_back (slice_set items saved.0 saved.1) log
 
   -- as it is seen: what was marked is the first records, as many as there were, with the log put back
-  abbrev pub marking_of : Vec (Entry X) → Vec (ℕ × X) → Option ℕ → Marking X
+  abbrev pub marking_of : Vec (Logged X) → Vec (ℕ × X) → Option ℕ → Marking X
   marking_of entries log marked = record {
     now = records entries.items;
     marked = option_map (λ len. put_back (take len (records entries.items)) log.items) marked;
@@ -65,7 +65,7 @@ module _ {X : Type 0} where
   HasSeat m = (0 < m.room) ⊎ (length m.now ≤ m.seats)
 
   -- The records that are marked are there, and exactly those that were changed since are in the log, each once.
-  pub record IsSound (entries : List (Entry X)) (log : List (ℕ × X)) (marked : Option ℕ) : Type 0 where
+  pub record IsSound (entries : List (Logged X)) (log : List (ℕ × X)) (marked : Option ℕ) : Type 0 where
     pub within : mark_len marked ≤ length entries
     pub below : IsBelow (mark_len marked) log
     pub once : IsOnce log

@@ -1,14 +1,14 @@
 -- What becomes of all entries of a process.
 use Rattle.std.specs.Prelude.{◌≡◌, ◌==◌, ◌&&◌, ℕ, true, false, cond, List, Option, Some, None, MatchOption}
 use Rattle.nomos_slots.specs.Cells.{Cell, cell_at}
-use Rattle.nomos_slots.specs.declared.cells.Named.{Named}
+use Rattle.nomos_slots.specs.declared.cells.NamedVariable.{NamedVariable}
 
 -- an entry of the process, and none where there is none
-abbrev pub IsEntryOf : List Cell → ℕ → Option Named → Type 0
+abbrev pub IsEntryOf : List Cell → ℕ → Option NamedVariable → Type 0
 IsEntryOf cells process result =
     MatchOption
     result
-    ((place : ℕ) (e : Named) → cell_at cells place ≡ Some e → (e.process == process) ≡ false)
+    ((place : ℕ) (e : NamedVariable) → cell_at cells place ≡ Some e → (e.process == process) ≡ false)
     (λ e. (place : ℕ) × (cell_at cells place ≡ Some e) × ((e.process == process) ≡ true))
 
 -- one name instead of another

@@ -7,7 +7,7 @@ use std::alloc::{AllocError, Global};
 
 /// The name that a variable of a process has.
 #[derive(Clone, Copy, Debug)]
-pub struct Named {
+pub struct NamedVariable {
     pub process: u32,
     pub variable: u32,
     pub name: u32,
@@ -37,14 +37,14 @@ fn home(homes: usize, process: u32, variable: u32) -> usize
 }
 
 // Whether the entry is of this variable of this process.
-fn is_of(entry: Named, process: u32, variable: u32) -> bool
+fn is_of(entry: NamedVariable, process: u32, variable: u32) -> bool
     ensures { result ≡ is_of process variable entry }
 {
     entry.process == process && entry.variable == variable
 }
 
 /// What stands in a cell.
-pub(crate) fn cell(cells: &Column<Option<Named>>, place: usize) -> Option<Named>
+pub(crate) fn cell(cells: &Column<Option<NamedVariable>>, place: usize) -> Option<NamedVariable>
     ensures { result ≡ cell_at cells.now.now place }
 {
     cells.get(place).unwrap_or(None)
@@ -52,7 +52,7 @@ pub(crate) fn cell(cells: &Column<Option<Named>>, place: usize) -> Option<Named>
 
 /// The place of the entry of a variable of a process.
 pub(crate) fn place_in(
-    cells: &Column<Option<Named>>,
+    cells: &Column<Option<NamedVariable>>,
     homes: usize,
     process: u32,
     variable: u32,
@@ -73,7 +73,7 @@ pub(crate) fn place_in(
 }
 
 // The first empty cell from a place on.
-fn empty_in(cells: &Column<Option<Named>>, from: usize) -> Option<usize>
+fn empty_in(cells: &Column<Option<NamedVariable>>, from: usize) -> Option<usize>
     ensures { IsEmptyFrom cells.now.now from result }
 {
     for at in from..cells.len() {
@@ -86,10 +86,10 @@ fn empty_in(cells: &Column<Option<Named>>, from: usize) -> Option<usize>
 
 // The entry of this cell moves into the hole, where it may stand there, and leaves one. Where the hole is then.
 fn fill_hole(
-    cells: &mut Column<Option<Named>>,
+    cells: &mut Column<Option<NamedVariable>>,
     homes: usize,
     hole: usize,
-    next: (usize, Named),
+    next: (usize, NamedVariable),
 ) -> usize
     requires homes { 0 < homes }
     requires within { hole < length cells.old.now }
@@ -114,7 +114,7 @@ fn fill_hole(
 }
 
 // The cells after the hole move up where they may, until the hole is one that may be empty.
-fn close_up(cells: &mut Column<Option<Named>>, homes: usize, hole: usize)
+fn close_up(cells: &mut Column<Option<NamedVariable>>, homes: usize, hole: usize)
     requires homes { 0 < homes }
     requires within { hole < length cells.old.now }
     requires gap { IsGap homes cells.old.now hole (hole + 1) }
@@ -138,7 +138,11 @@ fn close_up(cells: &mut Column<Option<Named>>, homes: usize, hole: usize)
 
 /// The entry comes, in the place of one of the same variable of the same process where there is one. How many entries
 /// there are more.
-pub(crate) fn bind_in(cells: &mut Column<Option<Named>>, homes: usize, entry: Named) -> usize
+pub(crate) fn bind_in(
+    cells: &mut Column<Option<NamedVariable>>,
+    homes: usize,
+    entry: NamedVariable,
+) -> usize
     requires homes { 0 < homes }
     requires probed { IsProbed homes cells.old.now }
     requires room { homes + entries cells.old.now ≤ length cells.old.now }
@@ -164,7 +168,11 @@ pub(crate) fn bind_in(cells: &mut Column<Option<Named>>, homes: usize, entry: Na
 }
 
 /// The entry stands in the place of that of the same variable of the same process.
-pub(crate) fn rebind_in(cells: &mut Column<Option<Named>>, homes: usize, entry: Named)
+pub(crate) fn rebind_in(
+    cells: &mut Column<Option<NamedVariable>>,
+    homes: usize,
+    entry: NamedVariable,
+)
     requires homes { 0 < homes }
     requires probed { IsProbed homes cells.old.now }
     requires seats { length cells.old.now ≤ cells.old.seats }
@@ -185,7 +193,7 @@ pub(crate) fn rebind_in(cells: &mut Column<Option<Named>>, homes: usize, entry: 
 
 /// The entry of a variable of a process goes, where there is one. How many entries there are less.
 pub(crate) fn unbind_in(
-    cells: &mut Column<Option<Named>>,
+    cells: &mut Column<Option<NamedVariable>>,
     homes: usize,
     process: u32,
     variable: u32,
@@ -211,7 +219,10 @@ pub(crate) fn unbind_in(
 }
 
 /// So many empty cells, each with a seat in the log.
-pub(crate) fn blank(alloc: Global, count: usize) -> Result<Column<Option<Named>>, AllocError>
+pub(crate) fn blank(
+    alloc: Global,
+    count: usize,
+) -> Result<Column<Option<NamedVariable>>, AllocError>
     ensures len { IfOk result (λ cells. length cells.now ≡ count) }
     ensures empty { IfOk result (λ cells. (place : ℕ) → cell_at cells.now place ≡ None) }
     ensures seats { IfOk result (λ cells. length cells.now ≤ cells.seats) }
@@ -224,7 +235,7 @@ pub(crate) fn blank(alloc: Global, count: usize) -> Result<Column<Option<Named>>
 }
 
 // Adds so many empty cells.
-fn push_empty(cells: &mut Column<Option<Named>>, count: usize)
+fn push_empty(cells: &mut Column<Option<NamedVariable>>, count: usize)
     requires none { cells.old.now ≡ [] }
     requires room { count ≤ cells.old.room }
     ensures len { length cells.new.now ≡ count }
@@ -238,7 +249,7 @@ fn push_empty(cells: &mut Column<Option<Named>>, count: usize)
 }
 
 /// Empties all cells.
-pub(crate) fn empty_all(cells: &mut Column<Option<Named>>)
+pub(crate) fn empty_all(cells: &mut Column<Option<NamedVariable>>)
     requires seats { length cells.old.now ≤ cells.old.seats }
     ensures len { length cells.new.now ≡ length cells.old.now }
     ensures empty { (place : ℕ) → cell_at cells.new.now place ≡ None }
@@ -251,7 +262,11 @@ pub(crate) fn empty_all(cells: &mut Column<Option<Named>>)
 }
 
 // The same for what stands in a cell.
-fn bind_any(cells: &mut Column<Option<Named>>, homes: usize, entry: Option<Named>) -> usize
+fn bind_any(
+    cells: &mut Column<Option<NamedVariable>>,
+    homes: usize,
+    entry: Option<NamedVariable>,
+) -> usize
     requires homes { 0 < homes }
     requires probed { IsProbed homes cells.old.now }
     requires room { homes + entries cells.old.now ≤ length cells.old.now }
@@ -272,9 +287,9 @@ fn bind_any(cells: &mut Column<Option<Named>>, homes: usize, entry: Option<Named
 
 /// The entries of other cells come into empty ones. How many there are.
 pub(crate) fn fill(
-    cells: &mut Column<Option<Named>>,
+    cells: &mut Column<Option<NamedVariable>>,
     homes: usize,
-    from: &Column<Option<Named>>,
+    from: &Column<Option<NamedVariable>>,
 ) -> usize
     requires homes { 0 < homes }
     requires empty { (place : ℕ) → cell_at cells.old.now place ≡ None }

@@ -3,10 +3,12 @@ ghost use Rattle.std.specs.Prelude.{◌≡◌, ◌≤◌, ◌<◌, ◌+◌, ◌&
 ghost use Rattle.nomos_slots.specs.Cells.{IsOnce, IsProbed, cell_at, entries, name_in};
 ghost use Rattle.std.specs.Option.{option_map};
 ghost use Rattle.nomos_slots.specs.Sweeps.{instead_of};
-ghost use Rattle.nomos_slots.specs.Tables.{HaveSameNames, marked_entries};
+ghost use Rattle.nomos_slots.specs.ChannelTables.{HaveSameNames, marked_entries};
 ghost use Rattle.nomos_slots.specs.Users.{IsLowestUser};
 
-use crate::cells::{Named, bind_in, blank, cell, empty_all, fill, place_in, rebind_in, unbind_in};
+use crate::cells::{
+    NamedVariable, bind_in, blank, cell, empty_all, fill, place_in, rebind_in, unbind_in,
+};
 use crate::column::Column;
 use crate::sweeps::{drop_in, rename_in};
 use crate::users::lowest_user_in;
@@ -19,7 +21,7 @@ use std::marker::Model;
 /// Room is counted in names that come. Who binds one makes room first, by [`Channels::reserve`].
 #[derive(Drop, Debug)]
 pub struct Channels {
-    cells: Column<Option<Named>>,
+    cells: Column<Option<NamedVariable>>,
     /// How many cells are homes.
     homes: usize,
     /// How many names there are.
@@ -30,7 +32,7 @@ pub struct Channels {
 
 impl Model for Channels {
     ghost use Rattle.nomos_slots.specs.Marking.{Marking};
-    ghost use Rattle.nomos_slots.specs.Tables.{table_of, IsTable};
+    ghost use Rattle.nomos_slots.specs.ChannelTables.{table_of, IsTable};
     ghost use Rattle.nomos_slots.specs.Cells.{Cell};
 
     ghost Value = { Marking Cell };
@@ -43,9 +45,9 @@ impl Model for Channels {
 // The marked names of a table, if there are such, come into empty cells, which are marked with them and then emptied.
 // How many there are. The table is put back.
 fn fill_marked(
-    cells: &mut Column<Option<Named>>,
+    cells: &mut Column<Option<NamedVariable>>,
     homes: usize,
-    from: &mut Column<Option<Named>>,
+    from: &mut Column<Option<NamedVariable>>,
 ) -> usize
     requires homes { 0 < homes }
     requires empty { (place : ℕ) → cell_at cells.old.now place ≡ None }
@@ -75,7 +77,7 @@ fn fill_marked(
 // table as it was.
 fn rebuilt(
     alloc: Global,
-    from: &mut Column<Option<Named>>,
+    from: &mut Column<Option<NamedVariable>>,
     limit: usize,
 ) -> Result<Channels, AllocError>
     requires some { 0 < limit }
@@ -170,7 +172,7 @@ impl Channels {
         ensures marked { self.new.marked ≡ self.old.marked }
         ensures room { self.old.room ≤ self.new.room + 1 }
     {
-        let entry = Named {
+        let entry = NamedVariable {
             process,
             variable,
             name,
@@ -220,7 +222,7 @@ impl Channels {
         if self.get(process, variable) != Some(old) {
             return;
         }
-        let entry = Named {
+        let entry = NamedVariable {
             process,
             variable,
             name: new,

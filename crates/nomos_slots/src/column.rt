@@ -8,7 +8,7 @@ use std::marker::Model;
 
 /// A record, and whether the log has what stood at its place.
 #[derive(Clone, Copy, Debug)]
-struct Entry<T> {
+struct Logged<T> {
     item: T,
     kept: bool,
 }
@@ -19,7 +19,7 @@ struct Entry<T> {
 /// at most, and nothing else takes any. Where the log has a seat for each record, a put takes none.
 #[derive(Drop, Debug)]
 pub struct Column<T: Copy> {
-    items: Vec<Entry<T>>,
+    items: Vec<Logged<T>>,
     /// The place and the record of each marked one that was changed since.
     log: Vec<(usize, T)>,
     /// How many records there were at the mark.
@@ -41,7 +41,7 @@ impl<T: Copy> Model for Column<T> {
 }
 
 // Puts each record of the log back to its place.
-fn put_back<T: Copy>(items: &mut Vec<Entry<T>>, log: &[(usize, T)])
+fn put_back<T: Copy>(items: &mut Vec<Logged<T>>, log: &[(usize, T)])
     requires places { IsBelow (vec_len items.old) log.now }
     requires kept { IsKeptAsLogged items.old.items log.now }
     ensures records { records items.new.items ≡ put_back (records items.old.items) log.now }
@@ -50,7 +50,7 @@ fn put_back<T: Copy>(items: &mut Vec<Entry<T>>, log: &[(usize, T)])
     ensures capacity { vec_capacity items.new ≡ vec_capacity items.old }
 {
     for saved in log {
-        items[saved.0] = Entry {
+        items[saved.0] = Logged {
             item: saved.1,
             kept: false,
         };
@@ -58,7 +58,7 @@ fn put_back<T: Copy>(items: &mut Vec<Entry<T>>, log: &[(usize, T)])
 }
 
 // The entries at the places of the log are kept in it no longer.
-fn release<T: Copy>(items: &mut Vec<Entry<T>>, log: &[(usize, T)])
+fn release<T: Copy>(items: &mut Vec<Logged<T>>, log: &[(usize, T)])
     requires places { IsBelow (vec_len items.old) log.now }
     requires kept { IsKeptAsLogged items.old.items log.now }
     ensures records { records items.new.items ≡ records items.old.items }
@@ -72,12 +72,12 @@ fn release<T: Copy>(items: &mut Vec<Entry<T>>, log: &[(usize, T)])
 }
 
 // The same records in entries of which the log has nothing.
-fn unkept<T: Copy>(alloc: Global, entries: &[Entry<T>]) -> Result<Vec<Entry<T>>, AllocError>
+fn unkept<T: Copy>(alloc: Global, entries: &[Logged<T>]) -> Result<Vec<Logged<T>>, AllocError>
     ensures { IfOk result (λ v. v.items ≡ map unkept entries.now) }
 {
     entries
         .iter()
-        .map(|e| Entry {
+        .map(|e| Logged {
             item: e.item,
             kept: false,
         })
@@ -181,7 +181,7 @@ impl<T: Copy> Column<T> {
         ensures room { self.old.room ≤ self.new.room + 1 }
         ensures seats { self.new.seats ≡ self.old.seats }
     {
-        self.items.push_reserved(Entry { item, kept: false });
+        self.items.push_reserved(Logged { item, kept: false });
     }
 
     // Puts a record in the place of another, where the log can have what stood there.
@@ -195,12 +195,12 @@ impl<T: Copy> Column<T> {
         ensures free { min self.old.room (self.old.seats - length self.old.now) ≤ self.new.room }
         ensures seats { self.new.seats ≡ self.old.seats }
     {
-        let Entry { item: before, kept } = self.items[place];
+        let Logged { item: before, kept } = self.items[place];
         if is_due(kept, place, self.marked) {
             self.log.push_reserved((place, before));
-            self.items[place] = Entry { item, kept: true };
+            self.items[place] = Logged { item, kept: true };
         } else {
-            self.items[place] = Entry { item, kept };
+            self.items[place] = Logged { item, kept };
         }
     }
 
@@ -239,7 +239,7 @@ impl<T: Copy> Column<T> {
         ensures room { self.new.room ≡ self.old.room }
         ensures seats { self.new.seats ≡ self.old.seats }
     {
-        self.items[place] = Entry { item, kept: false };
+        self.items[place] = Logged { item, kept: false };
     }
 
     /// Only so many records stay, the first ones. Those that are marked have to be among them.

@@ -1,9 +1,9 @@
 //! Words of places, and words of words above.
 ghost use Rattle.std.specs.Prelude.{◌≡◌, ◌≤◌, ◌<◌, ◌*◌, ◌/◌, ◌^◌, ℕ, max, length, slice_index, IfOk};
 ghost use Rattle.nomos_slots.specs.Levels.{AreLevels, IsLonger, IsPut, IsRetold, bit_in, ground, places_in};
-ghost use Rattle.nomos_slots.specs.Lowest.{IsLowest};
+ghost use Rattle.nomos_slots.specs.LowestPlace.{IsLowest};
 
-use crate::words::{BITS, first_bit, has_bit, lowest_bit, with_bit};
+use crate::bits::{BITS, first_bit, has_bit, lowest_bit, with_bit};
 use std::alloc::AllocError;
 
 /// For how many places there are bits.

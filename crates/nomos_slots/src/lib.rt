@@ -2,6 +2,7 @@
 #![tactic(auto)]
 
 pub mod beside;
+mod bits;
 mod cells;
 pub mod channels;
 pub mod column;
@@ -12,4 +13,3 @@ pub mod shelf;
 mod sweeps;
 pub mod tail;
 mod users;
-mod words;

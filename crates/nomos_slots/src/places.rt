@@ -1,7 +1,7 @@
 //! Which places of a list are set.
 ghost use Rattle.std.specs.Prelude.{◌≡◌, ◌≤◌, ◌<◌, ◌+◌, ◌∷◌, ◌++◌, [], true, false, length, take, slice_set};
 ghost use Rattle.std.specs.Prelude.{IfOk, IsOk};
-ghost use Rattle.nomos_slots.specs.Lowest.{IsLowestSet, is_set_in};
+ghost use Rattle.nomos_slots.specs.LowestPlace.{IsLowestSet, is_set_in};
 
 use crate::levels::{capacity, grow, is_in, lowest_in, put};
 use std::alloc::{AllocError, Global};
@@ -14,30 +14,30 @@ const MOST: usize = 1 << 32;
 
 /// Which places of a list are set. The lowest over a place is found in a few look-ups, however many places there are.
 #[derive(Drop)]
-pub struct Places {
+pub struct PlaceSet {
     levels: [Vec<u64>; LEVELS],
     len: usize,
 }
 
-impl Model for Places {
-    ghost use Rattle.nomos_slots.specs.Seen.{Seen};
+impl Model for PlaceSet {
+    ghost use Rattle.nomos_slots.specs.SeenPlaces.{Seen};
 
     ghost Value = { Seen };
 
-    ghost use Rattle.nomos_slots.specs.Places.{AreKept, seen};
+    ghost use Rattle.nomos_slots.specs.PlaceSets.{AreKept, seen};
 
     ghost view = { seen };
 
     ghost invariant = { AreKept };
 }
 
-impl Places {
+impl PlaceSet {
     /// No places. It takes no memory.
     pub fn new(alloc: Global) -> Self
         ensures set { result.set ≡ [] }
         ensures room { result.room ≡ 0 }
     {
-        Places {
+        PlaceSet {
             levels: [
                 Vec::new(alloc),
                 Vec::new(alloc),

@@ -11,14 +11,14 @@ use std::mem;
 
 /// A row, and whether the log has all that stood there when it was marked.
 #[derive(Drop, Debug)]
-struct Row<T> {
+struct ShelfRow<T> {
     items: Vec<T>,
     freed: bool,
 }
 
 /// What was done to a marked row.
 #[derive(Drop, Debug)]
-enum Step<T> {
+enum ShelfStep<T> {
     /// An item came to the row of this place, at this index.
     Added { place: usize, at: usize },
     /// What stood at this place was another row.
@@ -32,9 +32,9 @@ enum Step<T> {
 /// counted in changes; who makes one makes room first.
 #[derive(Drop, Debug)]
 pub struct Shelf<T> {
-    rows: Vec<Row<T>>,
+    rows: Vec<ShelfRow<T>>,
     /// What was done to marked rows, in order.
-    log: Vec<Step<T>>,
+    log: Vec<ShelfStep<T>>,
     /// How many rows there were at the mark.
     marked: Option<usize>,
 }
@@ -53,16 +53,16 @@ impl<T> Model for Shelf<T> {
 }
 
 // The place that a step is of.
-fn place_of<T>(step: &Step<T>) -> usize
+fn place_of<T>(step: &ShelfStep<T>) -> usize
     ensures { result ≡ place_of step.now }
 {
     match step {
-        Step::Added { place, .. } | Step::Replaced { place, .. } => *place,
+        ShelfStep::Added { place, .. } | ShelfStep::Replaced { place, .. } => *place,
     }
 }
 
 // Of no row does the log have all any longer.
-fn release<T>(rows: &mut Vec<Row<T>>, log: &[Step<T>])
+fn release<T>(rows: &mut Vec<ShelfRow<T>>, log: &[ShelfStep<T>])
     requires below { All (λ step. place_of step < vec_len rows.old) log.now }
     requires covered { IsCovered rows.old.items log.now }
     ensures rows { rows_of rows.new.items ≡ rows_of rows.old.items }
@@ -77,7 +77,7 @@ fn release<T>(rows: &mut Vec<Row<T>>, log: &[Step<T>])
 }
 
 // Undoes a step.
-fn undo_step<T: Drop>(rows: &mut Vec<Row<T>>, step: Step<T>)
+fn undo_step<T: Drop>(rows: &mut Vec<ShelfRow<T>>, step: ShelfStep<T>)
     requires { place_of step < vec_len rows.old }
     ensures rows { rows_of rows.new.items ≡ undone step (rows_of rows.old.items) }
     ensures freed { (place : ℕ) → is_freed rows.new.items place ≡ true
@@ -86,13 +86,13 @@ fn undo_step<T: Drop>(rows: &mut Vec<Row<T>>, step: Step<T>)
     ensures capacity { vec_capacity rows.new ≡ vec_capacity rows.old }
 {
     match step {
-        Step::Added { place, at } => {
+        ShelfStep::Added { place, at } => {
             if at < rows[place].items.len() {
                 let _item = rows[place].items.remove(at);
             }
         }
-        Step::Replaced { place, row } => {
-            rows[place] = Row {
+        ShelfStep::Replaced { place, row } => {
+            rows[place] = ShelfRow {
                 items: row,
                 freed: false,
             };
@@ -101,7 +101,7 @@ fn undo_step<T: Drop>(rows: &mut Vec<Row<T>>, step: Step<T>)
 }
 
 // Undoes all steps, the last one first.
-fn undo_all<T: Drop>(rows: &mut Vec<Row<T>>, log: &mut Vec<Step<T>>)
+fn undo_all<T: Drop>(rows: &mut Vec<ShelfRow<T>>, log: &mut Vec<ShelfStep<T>>)
     requires below { All (λ step. place_of step < vec_len rows.old) log.old.items }
     requires covered { IsCovered rows.old.items log.old.items }
     ensures rows { rows_of rows.new.items ≡ undo log.old.items (rows_of rows.old.items) }
@@ -171,7 +171,7 @@ impl<T> Shelf<T> {
         ensures spares { self.new.spares ≡ self.old.spares ++ spare_of row ∷ [] }
         ensures room { self.old.room ≤ self.new.room + 1 }
     {
-        self.rows.push_reserved(Row {
+        self.rows.push_reserved(ShelfRow {
             items: row,
             freed: false,
         });
@@ -213,12 +213,13 @@ impl<T> Shelf<T> {
         if self.is_free(place) {
             return Some(mem::replace(&mut self.rows[place].items, row));
         }
-        let next = Row {
+        let next = ShelfRow {
             items: row,
             freed: true,
         };
-        let Row { items, .. } = mem::replace(&mut self.rows[place], next);
-        self.log.push_reserved(Step::Replaced { place, row: items });
+        let ShelfRow { items, .. } = mem::replace(&mut self.rows[place], next);
+        self.log
+            .push_reserved(ShelfStep::Replaced { place, row: items });
         None
     }
 
@@ -293,7 +294,7 @@ impl<T: Drop> Shelf<T> {
         let free = self.is_free(place);
         put_in(&mut self.rows[place].items, at, item);
         if !free {
-            self.log.push_reserved(Step::Added { place, at });
+            self.log.push_reserved(ShelfStep::Added { place, at });
         }
     }
 

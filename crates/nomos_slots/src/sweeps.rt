@@ -3,11 +3,11 @@ ghost use Rattle.std.specs.Prelude.{◌≡◌, ◌≤◌, ◌<◌, ◌+◌, ◌^
 ghost use Rattle.nomos_slots.specs.Cells.{IsProbed, cell_at, entries, name_in};
 ghost use Rattle.nomos_slots.specs.Sweeps.{IsEntryOf, renamed_cell};
 
-use crate::cells::{Named, cell, unbind_in};
+use crate::cells::{NamedVariable, cell, unbind_in};
 use crate::column::Column;
 
 // The first entry of a process.
-fn entry_of(cells: &Column<Option<Named>>, process: u32) -> Option<Named>
+fn entry_of(cells: &Column<Option<NamedVariable>>, process: u32) -> Option<NamedVariable>
     ensures { IsEntryOf cells.now.now process result }
 {
     for at in 0..cells.len() {
@@ -21,7 +21,11 @@ fn entry_of(cells: &Column<Option<Named>>, process: u32) -> Option<Named>
 }
 
 /// All entries of a process go. How many entries there are less.
-pub(crate) fn drop_in(cells: &mut Column<Option<Named>>, homes: usize, process: u32) -> usize
+pub(crate) fn drop_in(
+    cells: &mut Column<Option<NamedVariable>>,
+    homes: usize,
+    process: u32,
+) -> usize
     requires homes { 0 < homes }
     requires probed { IsProbed homes cells.old.now }
     requires seats { length cells.old.now ≤ cells.old.seats }
@@ -42,7 +46,7 @@ pub(crate) fn drop_in(cells: &mut Column<Option<Named>>, homes: usize, process: 
 }
 
 /// The entries of a process that have the one name have the other one instead.
-pub(crate) fn rename_in(cells: &mut Column<Option<Named>>, process: u32, old: u32, new: u32)
+pub(crate) fn rename_in(cells: &mut Column<Option<NamedVariable>>, process: u32, old: u32, new: u32)
     requires seats { length cells.old.now ≤ cells.old.seats }
     ensures now { cells.new.now ≡ map (renamed_cell process old new) cells.old.now }
     ensures marked { cells.new.marked ≡ cells.old.marked }
@@ -51,7 +55,7 @@ pub(crate) fn rename_in(cells: &mut Column<Option<Named>>, process: u32, old: u3
     for at in 0..cells.len() {
         if let Some(entry) = cell(cells, at) {
             if entry.process == process && entry.name == old {
-                cells.put(at, Some(Named { name: new, ..entry }));
+                cells.put(at, Some(NamedVariable { name: new, ..entry }));
             }
         }
     }

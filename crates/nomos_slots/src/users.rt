@@ -3,11 +3,11 @@ ghost use Rattle.std.specs.Prelude.{◌≡◌};
 ghost use Rattle.nomos_slots.specs.Cells.{IsOnce};
 ghost use Rattle.nomos_slots.specs.Users.{IsLowestUser, lower_user};
 
-use crate::cells::{Named, cell};
+use crate::cells::{NamedVariable, cell};
 use crate::column::Column;
 
 // The lower one of a process and that of a cell, where the entry there has the name.
-fn lower_user(lowest: Option<u32>, cell: Option<Named>, name: u32) -> Option<u32>
+fn lower_user(lowest: Option<u32>, cell: Option<NamedVariable>, name: u32) -> Option<u32>
     ensures { result ≡ lower_user name cell lowest }
 {
     let Some(entry) = cell else {
@@ -23,7 +23,7 @@ fn lower_user(lowest: Option<u32>, cell: Option<Named>, name: u32) -> Option<u32
 }
 
 /// The lowest process that has this name for one of its variables.
-pub(crate) fn lowest_user_in(cells: &Column<Option<Named>>, name: u32) -> Option<u32>
+pub(crate) fn lowest_user_in(cells: &Column<Option<NamedVariable>>, name: u32) -> Option<u32>
     requires { IsOnce cells.now.now }
     ensures { IsLowestUser cells.now.now name result }
 {

@@ -8,7 +8,7 @@ use Rattle.nomos_ir.specs.declared.mode.Mode.TheVariants as mode
 use Rattle.nomos_legal.specs.Ledger.{LedgerState}
 use Rattle.nomos_machine.specs.declared.object.Object.TheVariants as object
 use Rattle.nomos_machine.specs.declared.object.Payload.TheVariants as payload
-use Rattle.nomos_snapshot.specs.Gathering.{no_ledger}
+use Rattle.nomos_snapshot.specs.GatheredLines.{no_ledger}
 use Rattle.nomos_snapshot.specs.Line.{lines_text}
 use Rattle.nomos_snapshot.specs.Text.{ledger_lines}
 

@@ -18,16 +18,16 @@ use Rattle.nomos_machine.specs.declared.object.Object.TheVariants as object
 use Rattle.nomos_machine.specs.declared.object.PotentialList.{PotentialList}
 use Rattle.nomos_machine.specs.declared.object.Process.{Process}
 use Rattle.nomos_types.specs.Acceptance.{Acceptance}
-use Rattle.nomos_snapshot.specs.Gathering.{BeforeContracts, BeforeNames, BeforeObjects, Gathered, Goes, IsOverNames, IsOverObjects, IsOverVariables, Stand, at_head, at_next, at_spent, at_unit, behind, ledger_of, process_with, settled, unfinished, with_account, with_channel, with_contract, with_list, with_name, with_objects, with_value}
-use Rattle.nomos_snapshot.specs.Gathering as gathering
+use Rattle.nomos_snapshot.specs.GatheredLines.{BeforeContracts, BeforeNames, BeforeObjects, Gathered, Goes, IsOverNames, IsOverObjects, IsOverVariables, Stand, at_head, at_next, at_spent, at_unit, behind, ledger_of, process_with, settled, unfinished, with_account, with_channel, with_contract, with_list, with_name, with_objects, with_value}
+use Rattle.nomos_snapshot.specs.GatheredLines as gathering
 use Rattle.nomos_snapshot.specs.declared.gathered.Gathering.{Gathering}
 use Rattle.nomos_snapshot.specs.declared.line.SnapshotLine.{SnapshotLine}
 use Rattle.nomos_snapshot.specs.declared.line.SnapshotLine.TheVariants as line
-use Rattle.nomos_snapshot.specs.declared.told.ToldList.{ToldList}
-use Rattle.nomos_snapshot.specs.declared.told.ToldObject.{ToldObject}
-use Rattle.nomos_snapshot.specs.declared.told.ToldObject.TheVariants as told_object
-use Rattle.nomos_snapshot.specs.declared.told.ToldProcess.{ToldProcess}
-use Rattle.nomos_snapshot.specs.Told.{IsKept, IsProcessKept, IsSettled, LeadsOn, PutsBehind, list_told, object_told, process_told, told}
+use Rattle.nomos_snapshot.specs.declared.told_lines.ToldList.{ToldList}
+use Rattle.nomos_snapshot.specs.declared.told_lines.ToldObject.{ToldObject}
+use Rattle.nomos_snapshot.specs.declared.told_lines.ToldObject.TheVariants as told_object
+use Rattle.nomos_snapshot.specs.declared.told_lines.ToldProcess.{ToldProcess}
+use Rattle.nomos_snapshot.specs.ToldLines.{IsKept, IsProcessKept, IsSettled, LeadsOn, PutsBehind, list_told, object_told, process_told, told}
 use Rattle.nomos_snapshot.proofs.ProcessLaws.{over-channel, over-list, over-value}
 
 -- ---- lists

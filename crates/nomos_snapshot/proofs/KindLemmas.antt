@@ -5,12 +5,12 @@ use Rattle.nomos_ir.specs.Naming.{NamesAreShort}
 use Rattle.nomos_ir.specs.declared.lists.ProgramLists.{ProgramLists}
 use Rattle.nomos_texts.proofs.NamingLaws.{ReadsAs-named}
 use Rattle.nomos_snapshot.specs.Line.{IsLine, line_text, line_words}
-use Rattle.nomos_snapshot.specs.Words.{joined, words_in}
-use Rattle.nomos_snapshot.specs.declared.kind.LineKind.{LineKind}
-use Rattle.nomos_snapshot.specs.declared.kind.LineKind.TheVariants as kind
+use Rattle.nomos_snapshot.specs.LineWords.{joined, words_in}
+use Rattle.nomos_snapshot.specs.declared.line_kind.LineKind.{LineKind}
+use Rattle.nomos_snapshot.specs.declared.line_kind.LineKind.TheVariants as kind
 use Rattle.nomos_snapshot.specs.declared.line.SnapshotLine.{SnapshotLine}
 use Rattle.nomos_snapshot.specs.declared.line.SnapshotLine.TheVariants as line
-use Rattle.nomos_snapshot.specs.mirror.Kinds.{IsOfKind, ReadsWords, all_kinds, kind_named, kind_of, kind_word}
+use Rattle.nomos_snapshot.specs.mirror.LineKinds.{IsOfKind, ReadsWords, all_kinds, kind_named, kind_of, kind_word}
 use Rattle.nomos_snapshot.proofs.OneLineLaws.{line-words}
 use Rattle.nomos_snapshot.proofs.WordLemmas.{joined-words, no-words}
 

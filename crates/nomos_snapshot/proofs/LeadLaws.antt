@@ -4,7 +4,7 @@ use Rattle.std.proofs.lemmas.List.{append-nil, append_assoc, map-append, length-
 use Rattle.std.proofs.lemmas.List.Concat.{flat_map-append}
 use Rattle.std.specs.List.{flat_map}
 use Rattle.nomos_ir.specs.declared.ids.TypeId.{TypeId}
-use Rattle.nomos_deeds.specs.Seen.{seen_process}
+use Rattle.nomos_deeds.specs.SeenObjects.{seen_process}
 use Rattle.nomos_deeds.specs.declared.sight.SeenProcess.{SeenProcess}
 use Rattle.nomos_legal.specs.Ledger.{LedgerState, Contracts}
 use Rattle.nomos_machine.specs.State.{NameTypes}
@@ -13,13 +13,13 @@ use Rattle.nomos_machine.specs.declared.object.Object.TheVariants as object
 use Rattle.nomos_machine.specs.declared.object.Process.{Process}
 use Rattle.nomos_types.specs.Acceptance.{Acceptance}
 use Rattle.nomos_snapshot.proofs.VariableLaws.{value-line, list-line, channel-line}
-use Rattle.nomos_snapshot.specs.Gathering.{Gathered, Goes, Stand, at_head, behind, ledger_of, settled, unfinished, with_account, with_contract, with_name, with_objects}
-use Rattle.nomos_snapshot.specs.Gathering as gathering
+use Rattle.nomos_snapshot.specs.GatheredLines.{Gathered, Goes, Stand, at_head, behind, ledger_of, settled, unfinished, with_account, with_contract, with_name, with_objects}
+use Rattle.nomos_snapshot.specs.GatheredLines as gathering
 use Rattle.nomos_snapshot.specs.Line.{line_text, lines_text}
-use Rattle.nomos_snapshot.specs.Reading.{Reads}
-use Rattle.nomos_snapshot.specs.Reading as reading
-use Rattle.nomos_snapshot.specs.Leading.{LeadTo}
-use Rattle.nomos_snapshot.specs.Leading as leading
+use Rattle.nomos_snapshot.specs.SnapshotReading.{Reads}
+use Rattle.nomos_snapshot.specs.SnapshotReading as reading
+use Rattle.nomos_snapshot.specs.LineOrder.{LeadTo}
+use Rattle.nomos_snapshot.specs.LineOrder as leading
 use Rattle.nomos_snapshot.specs.Text.{body_lines, ledger_lines, object_lines, snapshot_text, variable_lines}
 use Rattle.nomos_snapshot.specs.declared.line.SnapshotLine.{SnapshotLine}
 use Rattle.nomos_snapshot.specs.declared.line.SnapshotLine.TheVariants as line

@@ -23,11 +23,11 @@ use Rattle.nomos_snapshot.specs.Loading as loading
 use Rattle.nomos_snapshot.specs.Saving.{HasLowNumbers}
 use Rattle.nomos_snapshot.specs.Snapshotted.{HasSnapshot}
 use Rattle.nomos_snapshot.specs.Text.{snapshot_text}
-use Rattle.nomos_snapshot.specs.Told.{AreSorted, parts_ledger}
+use Rattle.nomos_snapshot.specs.ToldLines.{AreSorted, parts_ledger}
 use Rattle.nomos_snapshot.specs.mirror.Loaded.{AreShared, AreSharedTo, AreWide, IsSoundState, MayStand, Refuses}
 use Rattle.nomos_snapshot.specs.declared.error.LoadError.{LoadError}
 use Rattle.nomos_snapshot.specs.declared.error.LoadError.TheVariants as error
-use Rattle.nomos_snapshot.specs.declared.parts.LedgerParts.{LedgerParts}
+use Rattle.nomos_snapshot.specs.declared.ledger_parts.LedgerParts.{LedgerParts}
 use Rattle.nomos_snapshot.proofs.LoadingLaws.{loads-loaded, loads-one, stands-loads}
 use Rattle.nomos_snapshot.proofs.OrderLaws.{reads-few, reads-orderly}
 use Rattle.nomos_snapshot.proofs.WideLemmas.{wide-untyped}

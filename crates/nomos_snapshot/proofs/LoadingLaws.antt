@@ -14,16 +14,16 @@ use Rattle.nomos_machine.specs.declared.object.Object.TheVariants as object
 use Rattle.nomos_machine.specs.declared.object.Process.{Process}
 use Rattle.nomos_machine.proofs.PreservationLaws.{process_at-there, ready-none}
 use Rattle.nomos_types.specs.Acceptance.{Acceptance, IsAccepted}
-use Rattle.nomos_snapshot.specs.Gathering.{Gathered, Goes, Stand, at_head, behind, ledger_of, no_ledger}
-use Rattle.nomos_snapshot.specs.Gathering as gathering
-use Rattle.nomos_snapshot.specs.Leading.{LeadTo}
-use Rattle.nomos_snapshot.specs.Leading as leading
+use Rattle.nomos_snapshot.specs.GatheredLines.{Gathered, Goes, Stand, at_head, behind, ledger_of, no_ledger}
+use Rattle.nomos_snapshot.specs.GatheredLines as gathering
+use Rattle.nomos_snapshot.specs.LineOrder.{LeadTo}
+use Rattle.nomos_snapshot.specs.LineOrder as leading
 use Rattle.nomos_snapshot.specs.Line.{IsLine, line_text}
 use Rattle.nomos_snapshot.specs.Loading.{Admits, IsSoundLedger, IsWorth, Loads, longest_snapshot}
 use Rattle.nomos_snapshot.specs.Loading as loading
 use Rattle.nomos_snapshot.specs.Orderly.{IsOrderly, kept}
-use Rattle.nomos_snapshot.specs.Reading.{Reads}
-use Rattle.nomos_snapshot.specs.Reading as reading
+use Rattle.nomos_snapshot.specs.SnapshotReading.{Reads}
+use Rattle.nomos_snapshot.specs.SnapshotReading as reading
 use Rattle.nomos_snapshot.specs.Saving.{HasLowNumbers}
 use Rattle.nomos_snapshot.specs.Text.{body_lines, ledger_lines, snapshot_text}
 use Rattle.nomos_snapshot.specs.declared.error.LoadError.{LoadError}

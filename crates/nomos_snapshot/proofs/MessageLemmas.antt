@@ -9,7 +9,7 @@ use Rattle.nomos_snapshot.specs.Line.{IsGas, IsLinePayload, IsMessageLine, line_
 use Rattle.nomos_snapshot.specs.declared.line.SnapshotLine.{SnapshotLine}
 use Rattle.nomos_snapshot.specs.declared.line.SnapshotLine.TheVariants as line
 use Rattle.nomos_snapshot.specs.declared.message_lines.MessageHead.{MessageHead}
-use Rattle.nomos_snapshot.specs.mirror.Kinds.{IsMessageHead, IsMessageOf, head_words}
+use Rattle.nomos_snapshot.specs.mirror.LineKinds.{IsMessageHead, IsMessageOf, head_words}
 
 -- ---- what is brought
 

@@ -7,11 +7,11 @@ use Rattle.nomos_texts.proofs.SplittingLaws.{apart-only}
 use Rattle.nomos_types.specs.Acceptance.{Acceptance}
 use Rattle.nomos_machine.specs.declared.object.Object.TheVariants as object
 use Rattle.nomos_machine.specs.declared.object.Process.{Process}
-use Rattle.nomos_snapshot.specs.Gathering.{Goes, Stand, at_head, at_next, at_spent, at_unit, behind, ledger_of, no_ledger, process_with, settled, unfinished, with_account, with_channel, with_contract, with_list, with_name, with_objects, with_value}
-use Rattle.nomos_snapshot.specs.Gathering as gathering
+use Rattle.nomos_snapshot.specs.GatheredLines.{Goes, Stand, at_head, at_next, at_spent, at_unit, behind, ledger_of, no_ledger, process_with, settled, unfinished, with_account, with_channel, with_contract, with_list, with_name, with_objects, with_value}
+use Rattle.nomos_snapshot.specs.GatheredLines as gathering
 use Rattle.nomos_snapshot.specs.Line.{line_text}
-use Rattle.nomos_snapshot.specs.Reading.{BeginsWith, NoneMayStand, Reads, WantsLine}
-use Rattle.nomos_snapshot.specs.Reading as reading
+use Rattle.nomos_snapshot.specs.SnapshotReading.{BeginsWith, NoneMayStand, Reads, WantsLine}
+use Rattle.nomos_snapshot.specs.SnapshotReading as reading
 use Rattle.nomos_snapshot.specs.declared.line.SnapshotLine.{SnapshotLine}
 use Rattle.nomos_snapshot.specs.declared.line.SnapshotLine.TheVariants as line
 use Rattle.nomos_snapshot.proofs.LineLaws.{line-feedless}

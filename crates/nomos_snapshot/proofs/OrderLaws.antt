@@ -29,13 +29,13 @@ use Rattle.nomos_machine.proofs.PutLaws.{push-order}
 use Rattle.nomos_machine.proofs.StartingLaws.{no-order}
 use Rattle.nomos_types.specs.Acceptance.{Acceptance}
 use Rattle.nomos_types.specs.Judgement.{count_one}
-use Rattle.nomos_snapshot.specs.Gathering.{Gathered, Goes, IsOverObjects, IsOverVariables, Stand, at_head, behind, ledger_of, no_ledger, process_with, with_account, with_channel, with_contract, with_list, with_name, with_objects, with_value}
-use Rattle.nomos_snapshot.specs.Gathering as gathering
-use Rattle.nomos_snapshot.specs.Leading.{LeadTo}
-use Rattle.nomos_snapshot.specs.Leading as leading
+use Rattle.nomos_snapshot.specs.GatheredLines.{Gathered, Goes, IsOverObjects, IsOverVariables, Stand, at_head, behind, ledger_of, no_ledger, process_with, with_account, with_channel, with_contract, with_list, with_name, with_objects, with_value}
+use Rattle.nomos_snapshot.specs.GatheredLines as gathering
+use Rattle.nomos_snapshot.specs.LineOrder.{LeadTo}
+use Rattle.nomos_snapshot.specs.LineOrder as leading
 use Rattle.nomos_snapshot.specs.Line.{line_text, lines_text}
 use Rattle.nomos_snapshot.specs.Orderly.{IsOrderly}
-use Rattle.nomos_snapshot.specs.Reading.{Reads}
+use Rattle.nomos_snapshot.specs.SnapshotReading.{Reads}
 use Rattle.nomos_snapshot.specs.Text.{ledger_lines, object_lines}
 use Rattle.nomos_snapshot.specs.declared.line.SnapshotLine.{SnapshotLine}
 use Rattle.nomos_snapshot.specs.declared.line.SnapshotLine.TheVariants as line

@@ -11,7 +11,7 @@ use Rattle.std.proofs.lemmas.List.{append-nil, append_assoc}
 use Rattle.std.proofs.lemmas.List.Elements.{All-cons, All-head, All-nil, All-push, All-tail}
 use Rattle.std.proofs.lemmas.Map.Keys.{sorted_head, sorted_tail}
 use Rattle.std.proofs.lemmas.Slice.Eq.{bytes_eq-Decides}
-use Rattle.nomos_deeds.specs.Seen.{seen_process}
+use Rattle.nomos_deeds.specs.SeenObjects.{seen_process}
 use Rattle.nomos_ir.specs.declared.ids.TypeId.{TypeId}
 use Rattle.nomos_legal.specs.Ledger.{Contracts, LedgerState, account_of, shared_name}
 use Rattle.nomos_machine.specs.Objects.{object_number}
@@ -20,10 +20,10 @@ use Rattle.nomos_machine.specs.TypedState.{HasVariables}
 use Rattle.nomos_machine.specs.declared.object.Object.{Object}
 use Rattle.nomos_machine.specs.declared.object.Object.TheVariants as object
 use Rattle.nomos_types.specs.Acceptance.{Acceptance}
-use Rattle.nomos_snapshot.specs.Gathering.{Gathered, IsOverObjects, at_head, behind, ledger_of, settled, with_objects}
-use Rattle.nomos_snapshot.specs.Gathering as gathering
-use Rattle.nomos_snapshot.specs.Leading.{LeadTo}
-use Rattle.nomos_snapshot.specs.Leading as leading
+use Rattle.nomos_snapshot.specs.GatheredLines.{Gathered, IsOverObjects, at_head, behind, ledger_of, settled, with_objects}
+use Rattle.nomos_snapshot.specs.GatheredLines as gathering
+use Rattle.nomos_snapshot.specs.LineOrder.{LeadTo}
+use Rattle.nomos_snapshot.specs.LineOrder as leading
 use Rattle.nomos_snapshot.specs.Line.{IsLine}
 use Rattle.nomos_snapshot.specs.Orderly.{IsOrderly, kept}
 use Rattle.nomos_snapshot.specs.Text.{ledger_lines, object_lines, variable_lines}

@@ -5,7 +5,7 @@ use Rattle.std.proofs.lemmas.Bool.Decides.{eqb_tells}
 use Rattle.std.proofs.lemmas.List.{append-nil, append_assoc}
 use Rattle.std.proofs.lemmas.List.Elements.{All-head, All-nil, All-push, All-tail, All-weaker}
 use Rattle.std.proofs.lemmas.Map.Keys.{sorted_tail}
-use Rattle.nomos_deeds.specs.Seen.{seen_process}
+use Rattle.nomos_deeds.specs.SeenObjects.{seen_process}
 use Rattle.nomos_deeds.specs.declared.sight.SeenProcess.{SeenProcess}
 use Rattle.nomos_ir.specs.Bindings.{bindings_of, bound_to, by_number}
 use Rattle.nomos_ir.specs.Value.{Value}
@@ -16,10 +16,10 @@ use Rattle.nomos_machine.specs.declared.object.Process.{Process}
 use Rattle.nomos_machine.specs.TypedState.{VariablesDiffer}
 use Rattle.nomos_types.specs.Acceptance.{Acceptance}
 use Rattle.nomos_types.specs.Judgement.{count_one}
-use Rattle.nomos_snapshot.specs.Gathering.{Gathered, Goes, IsOverObjects, IsOverVariables, behind, ledger_of, process_with, unfinished, with_channel, with_list, with_value}
-use Rattle.nomos_snapshot.specs.Gathering as gathering
-use Rattle.nomos_snapshot.specs.Leading.{LeadTo}
-use Rattle.nomos_snapshot.specs.Leading as leading
+use Rattle.nomos_snapshot.specs.GatheredLines.{Gathered, Goes, IsOverObjects, IsOverVariables, behind, ledger_of, process_with, unfinished, with_channel, with_list, with_value}
+use Rattle.nomos_snapshot.specs.GatheredLines as gathering
+use Rattle.nomos_snapshot.specs.LineOrder.{LeadTo}
+use Rattle.nomos_snapshot.specs.LineOrder as leading
 use Rattle.nomos_snapshot.specs.Line.{IsLine}
 use Rattle.nomos_snapshot.specs.Text.{variable_lines}
 use Rattle.nomos_snapshot.specs.declared.line.SnapshotLine.{SnapshotLine}

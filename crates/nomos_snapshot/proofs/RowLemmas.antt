@@ -2,7 +2,7 @@
 use Rattle.std.proofs.Common.{◌≡◌, ◌≢◌, ℕ, ◌-◌, ◌≤◌, List, [], ◌∷◌, ◌++◌, drop, get_or, refl, sym, ◌∙◌, ap, subst, arith, append_assoc, append-nil, Result, Ok, Err, Option, Some, None, IfOk}
 use Rattle.std.specs.Prelude.{codes, MatchOption}
 use Rattle.nomos_ir.specs.Value.{Value, ValueList, int, truth, list, no_values, value, value_list}
-use Rattle.nomos_texts.specs.Value.{value_text, row_text, tail_text}
+use Rattle.nomos_texts.specs.ValueTexts.{value_text, row_text, tail_text}
 use Rattle.nomos_snapshot.specs.LineValue.{IsLineValue, HasSmallNumbers, HaveSmallNumbers, nesting, nestings}
 use Rattle.nomos_snapshot.specs.mirror.ValueReading.{IsScalar, IsWithin, AreWithin, Ends, BeginsScalar, BeginsValue, HasNoValue, BeginsRow, HasNoRow}
 use Rattle.nomos_snapshot.proofs.ValueLemmas.{inner-only, scalar-inner, scalar-first, value-only, rows-only, row-parts, tail-ends}

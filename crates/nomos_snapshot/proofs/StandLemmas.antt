@@ -3,10 +3,10 @@ use Rattle.std.proofs.Common.{◌≡◌, ◌≢◌, ℕ, List, Bool, true, false
 use Rattle.std.proofs.lemmas.Bool.{false≢true}
 use Rattle.nomos_ir.specs.Naming.{NamesAreShort, NamesDiffer}
 use Rattle.nomos_types.specs.Acceptance.{Acceptance}
-use Rattle.nomos_snapshot.specs.Gathering.{Gathered, Goes, Stand, at_head, at_next, at_spent, at_unit, behind, no_ledger}
-use Rattle.nomos_snapshot.specs.Gathering as gathering
+use Rattle.nomos_snapshot.specs.GatheredLines.{Gathered, Goes, Stand, at_head, at_next, at_spent, at_unit, behind, no_ledger}
+use Rattle.nomos_snapshot.specs.GatheredLines as gathering
 use Rattle.nomos_snapshot.specs.Line.{IsLine, line_text}
-use Rattle.nomos_snapshot.specs.Told.{CannotGo, IsKept, LeadsOn, told}
+use Rattle.nomos_snapshot.specs.ToldLines.{CannotGo, IsKept, LeadsOn, told}
 use Rattle.nomos_snapshot.specs.declared.gathered.Gathering.{Gathering}
 use Rattle.nomos_snapshot.specs.declared.line.SnapshotLine.{SnapshotLine}
 use Rattle.nomos_snapshot.specs.declared.line.SnapshotLine.TheVariants as line

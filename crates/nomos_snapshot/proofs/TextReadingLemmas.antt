@@ -7,15 +7,15 @@ use Rattle.nomos_ir.specs.Naming.{NamesAreShort, NamesDiffer}
 use Rattle.nomos_texts.specs.Splitting.{ComesApart, Lacks}
 use Rattle.nomos_texts.proofs.SplittingLaws.{ComesApart-parts, Lacks-apart}
 use Rattle.nomos_types.specs.Acceptance.{Acceptance}
-use Rattle.nomos_snapshot.specs.Gathering.{Gathered, Stand, at_head, at_next, at_spent, at_unit, behind, ledger_of}
+use Rattle.nomos_snapshot.specs.GatheredLines.{Gathered, Stand, at_head, at_next, at_spent, at_unit, behind, ledger_of}
 use Rattle.nomos_snapshot.specs.Line.{IsLine, line_text}
-use Rattle.nomos_snapshot.specs.Reading.{NoneMayStand, Reads, WantsLine}
-use Rattle.nomos_snapshot.specs.Reading as reading
+use Rattle.nomos_snapshot.specs.SnapshotReading.{NoneMayStand, Reads, WantsLine}
+use Rattle.nomos_snapshot.specs.SnapshotReading as reading
 use Rattle.nomos_snapshot.specs.declared.line.SnapshotLine.{SnapshotLine}
 use Rattle.nomos_snapshot.specs.declared.stand.TextStand.{TextStand}
 use Rattle.nomos_snapshot.specs.declared.stand.TextStand.TheVariants as stand
 use Rattle.nomos_snapshot.specs.mirror.Stands.{HasRead, LedBy, stand_told}
-use Rattle.nomos_snapshot.specs.Told.{CannotGo}
+use Rattle.nomos_snapshot.specs.ToldLines.{CannotGo}
 use Rattle.nomos_snapshot.proofs.GatheringLemmas.{none-long}
 use Rattle.nomos_snapshot.proofs.LineLaws.{line-feedless}
 use Rattle.nomos_snapshot.proofs.OneLineLaws.{line_text-only}

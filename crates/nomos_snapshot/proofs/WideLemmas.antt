@@ -52,12 +52,12 @@ use Rattle.nomos_types.specs.TypingRule as rule
 use Rattle.nomos_types.proofs.AmountLaws.{amounts-are_of}
 use Rattle.nomos_types.proofs.OccurrenceLaws.{contains-map, contains-part}
 use Rattle.nomos_snapshot.proofs.OrderLaws.{bound-past}
-use Rattle.nomos_snapshot.specs.Told.{list_told, object_told, process_told}
+use Rattle.nomos_snapshot.specs.ToldLines.{list_told, object_told, process_told}
 use Rattle.nomos_snapshot.specs.mirror.Loaded.{AreWide, HasWide, IsWideObject}
-use Rattle.nomos_snapshot.specs.declared.told.ToldList.{ToldList}
-use Rattle.nomos_snapshot.specs.declared.told.ToldObject.{ToldObject}
-use Rattle.nomos_snapshot.specs.declared.told.ToldObject.TheVariants as told_object
-use Rattle.nomos_snapshot.specs.declared.told.ToldProcess.{ToldProcess}
+use Rattle.nomos_snapshot.specs.declared.told_lines.ToldList.{ToldList}
+use Rattle.nomos_snapshot.specs.declared.told_lines.ToldObject.{ToldObject}
+use Rattle.nomos_snapshot.specs.declared.told_lines.ToldObject.TheVariants as told_object
+use Rattle.nomos_snapshot.specs.declared.told_lines.ToldProcess.{ToldProcess}
 
 -- the lists carry no more than 64 bits count
 abbrev AreSmall : List (VarId × ListType) → Type 0

@@ -1,7 +1,7 @@
 -- Words that are written one behind another.
 use Rattle.std.proofs.Common.{◌≡◌, ℕ, ◌+◌, ◌<◌, List, [], ◌∷◌, ◌++◌, length, map, take, get_or, refl, sym, ◌∙◌, ap, append_assoc}
 use Rattle.std.proofs.lemmas.List.{map-append, take_more}
-use Rattle.nomos_snapshot.specs.Words.{joined}
+use Rattle.nomos_snapshot.specs.LineWords.{joined}
 
 -- a word more
 joined-more : (first : List ℕ) (ws : List (List ℕ)) (w : List ℕ)

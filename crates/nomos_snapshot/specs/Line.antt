@@ -13,9 +13,9 @@ use Rattle.nomos_machine.specs.declared.object.Message.{Message}
 use Rattle.nomos_machine.specs.declared.object.Payload.{Payload}
 use Rattle.nomos_machine.specs.declared.object.Payload.TheVariants as payload
 use Rattle.nomos_script.specs.ScriptNames.{IsScriptName}
-use Rattle.nomos_texts.specs.Value.{value_text}
+use Rattle.nomos_texts.specs.ValueTexts.{value_text}
 use Rattle.nomos_snapshot.specs.LineValue.{IsLineValue}
-use Rattle.nomos_snapshot.specs.Words.{joined}
+use Rattle.nomos_snapshot.specs.LineWords.{joined}
 use Rattle.nomos_snapshot.specs.declared.line.SnapshotLine.{SnapshotLine}
 use Rattle.nomos_snapshot.specs.declared.line.SnapshotLine.TheVariants as line
 

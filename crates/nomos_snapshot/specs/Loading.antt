@@ -6,8 +6,8 @@ use Rattle.nomos_machine.specs.Run.{IsNextReady, NoneReady}
 use Rattle.nomos_machine.specs.State.{gas_of}
 use Rattle.nomos_machine.specs.TypedState.{IsContractName, IsTyped}
 use Rattle.nomos_types.specs.Acceptance.{Acceptance}
-use Rattle.nomos_snapshot.specs.Gathering.{at_head}
-use Rattle.nomos_snapshot.specs.Reading.{Reads}
+use Rattle.nomos_snapshot.specs.GatheredLines.{at_head}
+use Rattle.nomos_snapshot.specs.SnapshotReading.{Reads}
 use Rattle.nomos_snapshot.specs.declared.error.LoadError.{LoadError}
 use Rattle.nomos_snapshot.specs.declared.error.LoadError.TheVariants as error
 

@@ -1,7 +1,7 @@
 -- Mirrors of the code, on which no promise stands.
-pub mod Kinds
+pub mod LineKinds
 pub mod Loaded
 pub mod Remaining
 pub mod Stands
 pub mod ValueReading
-pub mod Written
+pub mod WrittenWords

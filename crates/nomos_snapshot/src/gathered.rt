@@ -1,10 +1,10 @@
 //! What lines told, and what one line more adds.
 ghost use Rattle.std.specs.Prelude.{◌≡◌, IfOk, OnOk, None};
-ghost use Rattle.nomos_snapshot.specs.Gathering.{ledger_of, no_ledger};
-ghost use Rattle.nomos_snapshot.specs.Told.{IsKept, IsNewAccount, IsSettled, LeadsOn, told};
+ghost use Rattle.nomos_snapshot.specs.GatheredLines.{ledger_of, no_ledger};
+ghost use Rattle.nomos_snapshot.specs.ToldLines.{IsKept, IsNewAccount, IsSettled, LeadsOn, told};
 
 use crate::line::SnapshotLine;
-use crate::told::{ToldList, ToldObject, ToldProcess};
+use crate::told_lines::{ToldList, ToldObject, ToldProcess};
 use nomos_deeds::sight::SeenProcess;
 use nomos_ir::ids::{TypeId, VarId};
 use nomos_ir::value::{Value, Values};

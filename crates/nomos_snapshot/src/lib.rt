@@ -1,26 +1,26 @@
 //! Snapshots: a ledger as text, and a text as the ledger that it is the snapshot of.
 #![tactic(auto)]
 
-mod bounds;
 pub mod error;
 pub mod gathered;
-mod kind;
-mod labels;
+mod label_table;
+pub mod ledger_loading;
+pub mod ledger_parts;
 pub mod line;
-pub mod load;
+mod line_bounds;
+mod line_kind;
+pub mod line_reader;
+pub mod line_words;
+pub mod line_writing;
 pub mod loading;
 mod marked;
 mod message_lines;
-pub mod parts;
 mod plain_lines;
 mod process_lines;
-pub mod reading;
 mod remaining;
 pub mod saving;
 mod stand;
-mod told;
-mod values;
+mod told_lines;
+mod value_reading;
 pub mod whole;
 mod wide;
-pub mod words;
-pub mod writing;

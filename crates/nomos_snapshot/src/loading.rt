@@ -4,9 +4,9 @@ ghost use Rattle.nomos_contents.specs.Data.{state_of};
 ghost use Rattle.nomos_legal.specs.Ending.{HasTransaction};
 ghost use Rattle.nomos_machine.specs.Objects.{object_number, purse_of};
 ghost use Rattle.nomos_machine.specs.State.{gas_of};
-ghost use Rattle.nomos_snapshot.specs.Gathering.{ledger_of};
+ghost use Rattle.nomos_snapshot.specs.GatheredLines.{ledger_of};
 ghost use Rattle.nomos_snapshot.specs.Loading.{TellsLedger, IsWorth, Loads};
-ghost use Rattle.nomos_snapshot.specs.Told.{IsKept, told};
+ghost use Rattle.nomos_snapshot.specs.ToldLines.{IsKept, told};
 ghost use Rattle.nomos_snapshot.specs.mirror.Remaining.{IsTransactionObject};
 
 use crate::error::LoadError;

@@ -1,10 +1,10 @@
 //! Numbers behind words that say what they are.
 ghost use Rattle.std.specs.Prelude.{◌≡◌, ◌≢◌, ◌∷◌, ℕ, List, MatchOption, Option, decimal, codes};
-ghost use Rattle.nomos_texts.specs.Reading.{ReadsAs};
+ghost use Rattle.nomos_texts.specs.ReadAs.{ReadsAs};
 ghost use Rattle.nomos_snapshot.specs.Line.{IsGas, IsNumber, IsNumberIfAny, name_word};
 
+use crate::line_words::Words;
 use crate::plain_lines::read_gas;
-use crate::words::Words;
 use nomos_texts::number::read_u32;
 use nomos_texts::splitting::is_word;
 

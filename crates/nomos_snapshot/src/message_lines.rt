@@ -3,16 +3,16 @@ ghost use Rattle.std.specs.Prelude.{◌≡◌, ◌≢◌, ◌∷◌, ◌++◌, [
 ghost use Rattle.nomos_ir.specs.declared.ids.Label.{Label as LabelNumber};
 ghost use Rattle.nomos_ir.specs.declared.lists.ProgramLists.{ProgramLists};
 ghost use Rattle.nomos_machine.specs.declared.object.Payload.{Payload as Brought};
-ghost use Rattle.nomos_texts.specs.Reading.{ReadsAs};
+ghost use Rattle.nomos_texts.specs.ReadAs.{ReadsAs};
 ghost use Rattle.nomos_snapshot.specs.Line.{IsGas, IsLabel, IsLinePayload, label_word, payload_words, way_word};
 ghost use Rattle.nomos_snapshot.specs.declared.message_lines.MessageHead.{MessageHead as Head};
-ghost use Rattle.nomos_snapshot.specs.mirror.Kinds.{ReadsWords, IsMessageHead, IsMessageOf, head_words};
+ghost use Rattle.nomos_snapshot.specs.mirror.LineKinds.{ReadsWords, IsMessageHead, IsMessageOf, head_words};
 
-use crate::labels::LabelTable;
+use crate::label_table::LabelTable;
 use crate::line::SnapshotLine;
+use crate::line_words::Words;
 use crate::marked::{gas_behind, read_any_name};
-use crate::values::read_value;
-use crate::words::Words;
+use crate::value_reading::read_value;
 use nomos_ir::ids::Label;
 use nomos_machine::object::{Message, Payload};
 use nomos_texts::number::read_u32;

@@ -2,12 +2,12 @@
 ghost use Rattle.std.specs.Prelude.{◌≡◌, ◌≢◌, ◌∷◌, [], ◌≤◌, ◌^◌, ℕ, List, IfOk, MatchOption, decimal};
 ghost use Rattle.nomos_ir.specs.declared.lists.ProgramLists.{ProgramLists};
 ghost use Rattle.nomos_script.specs.ScriptNames.{IsScriptName};
-ghost use Rattle.nomos_texts.specs.Reading.{ReadsAs};
+ghost use Rattle.nomos_texts.specs.ReadAs.{ReadsAs};
 ghost use Rattle.nomos_snapshot.specs.Line.{IsGas, IsNext, IsNumber, IsTypeNumber};
-ghost use Rattle.nomos_snapshot.specs.mirror.Kinds.{ReadsWords, IsAccountLine, IsContractLine, IsHeadLine, IsNameLine, IsNextLine, IsSpentLine, IsUnitLine};
+ghost use Rattle.nomos_snapshot.specs.mirror.LineKinds.{ReadsWords, IsAccountLine, IsContractLine, IsHeadLine, IsNameLine, IsNextLine, IsSpentLine, IsUnitLine};
 
 use crate::line::SnapshotLine;
-use crate::words::Words;
+use crate::line_words::Words;
 use nomos_ir::ids::TypeId;
 use nomos_ir::program::Program;
 use nomos_script::name::{ScriptName, is_script_name};

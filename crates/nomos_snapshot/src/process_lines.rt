@@ -1,15 +1,15 @@
 //! How the lines of processes and of their variables are read.
 ghost use Rattle.std.specs.Prelude.{◌≡◌, ◌≢◌, ◌∷◌, [], ℕ, List, IfOk, MatchOption, decimal};
 ghost use Rattle.nomos_ir.specs.declared.lists.ProgramLists.{ProgramLists};
-ghost use Rattle.nomos_texts.specs.Reading.{ReadsAs};
+ghost use Rattle.nomos_texts.specs.ReadAs.{ReadsAs};
 ghost use Rattle.nomos_snapshot.specs.Line.{IsGas, IsNumber, IsPlace, mode_word};
-ghost use Rattle.nomos_snapshot.specs.mirror.Kinds.{ReadsWords, IsChannelLine, IsListLine, IsProcessOf, IsValueLine};
+ghost use Rattle.nomos_snapshot.specs.mirror.LineKinds.{ReadsWords, IsChannelLine, IsListLine, IsProcessOf, IsValueLine};
 
 use crate::line::SnapshotLine;
+use crate::line_words::Words;
 use crate::marked::{base_behind, gas_behind, number_behind};
 use crate::plain_lines::{last_word, read_gas};
-use crate::values::{read_list, read_value};
-use crate::words::Words;
+use crate::value_reading::{read_list, read_value};
 use nomos_deeds::sight::SeenProcess;
 use nomos_ir::ids::{CodeId, VarId};
 use nomos_ir::mode::Mode;

@@ -2,7 +2,7 @@
 ghost use Rattle.std.specs.Prelude.{◌≡◌, ◌≢◌, ◌∷◌, [], All, IfErr, IfOk, Ok, Err, OnOk, map, zip};
 ghost use Rattle.std.specs.List.{flat_map};
 ghost use Rattle.nomos_contents.specs.Data.{state_of};
-ghost use Rattle.nomos_deeds.specs.Seen.{seen_process};
+ghost use Rattle.nomos_deeds.specs.SeenObjects.{seen_process};
 ghost use Rattle.nomos_ir.specs.declared.lists.ProgramLists.{ProgramLists};
 ghost use Rattle.nomos_legal.specs.StandsFor.{StandsFor};
 ghost use Rattle.nomos_machine.specs.TypedState.{HasVariables, VariablesDiffer};
@@ -13,17 +13,17 @@ ghost use Rattle.nomos_snapshot.specs.Saving.{HasLowNumbers, Saves};
 ghost use Rattle.nomos_snapshot.specs.Text.{ledger_lines, object_lines, variable_lines};
 ghost use Rattle.nomos_snapshot.specs.mirror.Remaining.{WritesLines, lowest_line};
 
-use crate::bounds::{
-    is_gas, is_line_list, is_line_value, is_message_line, is_process_line, is_type,
-};
 use crate::error::SaveError;
 use crate::line::SnapshotLine;
-use crate::plain_lines::NEXT_LIMIT;
-use crate::remaining::{LowestVariable, Remaining};
-use crate::writing::{
+use crate::line_bounds::{
+    is_gas, is_line_list, is_line_value, is_message_line, is_process_line, is_type,
+};
+use crate::line_writing::{
     push_account, push_channel_line, push_contract, push_head, push_list_line, push_message,
     push_next, push_process, push_spent, push_typed_name, push_unit, push_value_line,
 };
+use crate::plain_lines::NEXT_LIMIT;
+use crate::remaining::{LowestVariable, Remaining};
 use nomos_contents::contents::Contents;
 use nomos_contents::data::StateData;
 use nomos_deeds::sight::SeenProcess;

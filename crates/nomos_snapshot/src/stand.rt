@@ -2,7 +2,7 @@
 ghost use Rattle.std.specs.Prelude.{◌≡◌, ◌≢◌, ◌↔◌, ℕ, IfOk, IsTrue, MatchOption};
 ghost use Rattle.nomos_types.specs.Acceptance.{Acceptance};
 ghost use Rattle.nomos_snapshot.specs.mirror.Stands.{IsLed, IsStandKept};
-ghost use Rattle.nomos_snapshot.specs.Told.{IsKept, LeadsOn};
+ghost use Rattle.nomos_snapshot.specs.ToldLines.{IsKept, LeadsOn};
 
 use crate::gathered::Gathering;
 use crate::line::SnapshotLine;

@@ -1,13 +1,13 @@
 //! How the text of a snapshot is read, line by line.
 ghost use Rattle.std.specs.Prelude.{◌≡◌, IfOk, IfSome, MatchResult, Ok, Err};
 ghost use Rattle.nomos_ir.specs.Naming.{NamesAreShort, NamesDiffer};
-ghost use Rattle.nomos_snapshot.specs.Gathering.{at_head, ledger_of};
-ghost use Rattle.nomos_snapshot.specs.Reading.{Reads};
+ghost use Rattle.nomos_snapshot.specs.GatheredLines.{at_head, ledger_of};
+ghost use Rattle.nomos_snapshot.specs.SnapshotReading.{Reads};
 ghost use Rattle.nomos_snapshot.specs.mirror.Stands.{HasEnded, IsLedBy, IsStandKept};
-ghost use Rattle.nomos_snapshot.specs.Told.{IsKept, told};
+ghost use Rattle.nomos_snapshot.specs.ToldLines.{IsKept, told};
 
 use crate::gathered::Gathering;
-use crate::reading::LineReader;
+use crate::line_reader::LineReader;
 use crate::stand::TextStand;
 use nomos_texts::splitting::split_once;
 use nomos_types::accepted::Accepted;

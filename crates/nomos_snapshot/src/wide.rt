@@ -2,12 +2,12 @@
 ghost use Rattle.std.specs.Prelude.{◌≤◌, ◌↔◌, ◌^◌, IsTrue, map};
 ghost use Rattle.std.specs.Option.{option_map, option_to_list};
 ghost use Rattle.nomos_machine.specs.declared.object.Object.TheVariants as machine_object;
-ghost use Rattle.nomos_snapshot.specs.Gathering.{ledger_of};
-ghost use Rattle.nomos_snapshot.specs.Told.{object_told, process_told, told};
+ghost use Rattle.nomos_snapshot.specs.GatheredLines.{ledger_of};
+ghost use Rattle.nomos_snapshot.specs.ToldLines.{object_told, process_told, told};
 ghost use Rattle.nomos_snapshot.specs.mirror.Loaded.{AreWide, HasWide, IsWideObject};
 
 use crate::gathered::Gathering;
-use crate::told::{ToldList, ToldObject, ToldProcess};
+use crate::told_lines::{ToldList, ToldObject, ToldProcess};
 
 // Whether each element of a list carries more than 64 bits count.
 fn is_wide(list: &ToldList) -> bool

@@ -3,17 +3,17 @@ ghost use Rattle.std.specs.Prelude.{◌<◌, ◌^◌, IfSome, IsTrue, length};
 ghost use Rattle.nomos_legal.specs.NextNumbers.{HasNumbered};
 ghost use Rattle.nomos_legal.specs.StandsFor.{StandsFor};
 
-use crate::accepted::accepted_of;
-use crate::contracts::{AUCTION, BOX, CELLS, GIFT};
+use crate::accepted_texts::accepted_of;
+use crate::saved_contracts::{AUCTION, BOX, CELLS, GIFT};
 use nomos_deeds::machine::Machine;
 use nomos_ledger::ledger::Ledger;
 use nomos_machine::policy::Policy;
 use nomos_named::indexed::IndexedState;
+use nomos_run::one_worker::run_from;
 use nomos_run::orders::{Orders, ScriptRun, WholeRun};
-use nomos_run::running::run_from;
 use nomos_script::parsing::parse_script;
 use nomos_script::script::Script;
-use nomos_snapshot::load::load;
+use nomos_snapshot::ledger_loading::load;
 use nomos_snapshot::saving::save;
 use nomos_types::accepted::Accepted;
 use nomos_workers::batch::Crew;
@@ -34,7 +34,7 @@ const ORDERS: Orders = Orders {
 
 /// What is told of a run: the report, the journal, and the snapshot of the last ledger.
 #[derive(Drop)]
-struct Told {
+struct ToldRun {
     report: Vec<u8>,
     journal: Vec<u8>,
     snapshot: Vec<u8>,
@@ -65,7 +65,7 @@ fn snapshot_of(alloc: Global, accepted: &Accepted, ledger: &Ledger<IndexedState>
 }
 
 // What is told of a run that carried out all items.
-fn told_of(alloc: Global, accepted: &Accepted, whole: WholeRun<IndexedState>) -> Option<Told>
+fn told_of(alloc: Global, accepted: &Accepted, whole: WholeRun<IndexedState>) -> Option<ToldRun>
     requires { StandsFor accepted.now whole.ledger }
 {
     let WholeRun {
@@ -77,7 +77,7 @@ fn told_of(alloc: Global, accepted: &Accepted, whole: WholeRun<IndexedState>) ->
     let snapshot = snapshot_of(alloc, accepted, &ledger);
     drop(ledger);
     match (text, snapshot) {
-        (Some(journal), Some(snapshot)) => Some(Told {
+        (Some(journal), Some(snapshot)) => Some(ToldRun {
             report,
             journal,
             snapshot,
@@ -87,7 +87,7 @@ fn told_of(alloc: Global, accepted: &Accepted, whole: WholeRun<IndexedState>) ->
 }
 
 // What is told of a run.
-fn told_by(alloc: Global, accepted: &Accepted, ran: ScriptRun<IndexedState>) -> Option<Told>
+fn told_by(alloc: Global, accepted: &Accepted, ran: ScriptRun<IndexedState>) -> Option<ToldRun>
     requires { IfSome ran.finished (λ whole. StandsFor accepted.now whole.ledger) }
 {
     let ScriptRun { journal, finished } = ran;
@@ -121,7 +121,7 @@ fn told_from(
     accepted: &Accepted,
     from: Ledger<IndexedState>,
     script: &Script,
-) -> Option<Told>
+) -> Option<ToldRun>
     requires { StandsFor accepted.now from }
 {
     match run_behind(alloc, accepted, from, script) {
@@ -131,7 +131,7 @@ fn told_from(
 }
 
 // What is told of the text of a script.
-fn told_first(alloc: Global, accepted: &Accepted, script: &[u8]) -> Option<Told> {
+fn told_first(alloc: Global, accepted: &Accepted, script: &[u8]) -> Option<ToldRun> {
     match parse_script(alloc, script) {
         Ok(script) => told_from(alloc, accepted, Ledger::empty(alloc), &script),
         Err(_) => None,
@@ -144,7 +144,7 @@ fn told_loaded(
     accepted: &Accepted,
     snapshot: &[u8],
     script: &Script,
-) -> Option<Told> {
+) -> Option<ToldRun> {
     match load(alloc, accepted, snapshot) {
         Ok(ledger) => told_from(alloc, accepted, ledger, script),
         Err(_) => None,
@@ -152,7 +152,12 @@ fn told_loaded(
 }
 
 // The same, of the text of a script.
-fn told_behind(alloc: Global, accepted: &Accepted, snapshot: &[u8], script: &[u8]) -> Option<Told> {
+fn told_behind(
+    alloc: Global,
+    accepted: &Accepted,
+    snapshot: &[u8],
+    script: &[u8],
+) -> Option<ToldRun> {
     match parse_script(alloc, script) {
         Ok(script) => told_loaded(alloc, accepted, snapshot, &script),
         Err(_) => None,
@@ -182,13 +187,13 @@ fn is_joined(whole: &[u8], first: &[u8], second: &[u8], front: usize) -> bool {
 #[derive(Drop)]
 struct Whole<'a> {
     script: &'a [u8],
-    told: Told,
-    front: Told,
+    told: ToldRun,
+    front: ToldRun,
 }
 
 impl Whole<'_> {
     // Whether two parts tell what the whole does.
-    fn is_told_by(&self, first: &Told, second: &Told) -> bool {
+    fn is_told_by(&self, first: &ToldRun, second: &ToldRun) -> bool {
         let fronts = (self.front.report.len(), self.front.journal.len());
         is_joined(&self.told.report, &first.report, &second.report, fronts.0)
             && is_joined(

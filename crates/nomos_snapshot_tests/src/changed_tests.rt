@@ -2,9 +2,9 @@
 //! often as an independent program answers so of the same texts.
 ghost use Rattle.std.specs.Prelude.{◌<◌, ◌≤◌, vec_len};
 
-use crate::accepted::accepted_of;
+use crate::accepted_texts::accepted_of;
 use crate::answer::{Answer, answer_of};
-use crate::contracts::{
+use crate::saved_contracts::{
     AUCTION, AUCTION_BIDDEN, BOX, BOX_LEDGER, CROSSED_LEDGER, CROSSING, GIFT, GIFT_LEDGER,
 };
 use nomos_types::accepted::Accepted;
@@ -124,7 +124,7 @@ fn change_numbers(text: &mut Vec<u8>, dice: &mut Dice)
 
 /// How a text is changed.
 #[derive(Clone, Copy, PartialEq, Eq, Debug)]
-enum Way {
+enum ChangeWay {
     Anywhere,
     /// Where mostly its form stays.
     AtNumbers,
@@ -162,12 +162,17 @@ impl Counts {
 }
 
 // A text that was changed.
-fn changed(alloc: Global, text: &str, way: Way, dice: &mut Dice) -> Result<Vec<u8>, AllocError> {
+fn changed(
+    alloc: Global,
+    text: &str,
+    way: ChangeWay,
+    dice: &mut Dice,
+) -> Result<Vec<u8>, AllocError> {
     let mut changed = text.as_bytes().to_vec(alloc)?;
     if changed.len() > 0 {
         match way {
-            Way::Anywhere => change(&mut changed, dice)?,
-            Way::AtNumbers => change_numbers(&mut changed, dice),
+            ChangeWay::Anywhere => change(&mut changed, dice)?,
+            ChangeWay::AtNumbers => change_numbers(&mut changed, dice),
         }
     }
     Ok(changed)
@@ -178,7 +183,7 @@ fn changed_answer(
     alloc: Global,
     accepted: &Accepted,
     text: &str,
-    way: Way,
+    way: ChangeWay,
     dice: &mut Dice,
 ) -> Result<Answer, AllocError> {
     let changed = changed(alloc, text, way, dice)?;
@@ -190,7 +195,7 @@ fn counts_on(
     alloc: Global,
     accepted: &Accepted,
     text: &str,
-    way: Way,
+    way: ChangeWay,
     times: u32,
 ) -> Result<Counts, AllocError> {
     let mut dice = Dice { state: 70 };
@@ -205,7 +210,7 @@ fn counts_on(
 fn counts_of<R: Abort + AllocGlobal>(
     rt: &R,
     texts: (&str, &str),
-    way: Way,
+    way: ChangeWay,
     times: u32,
 ) -> Result<Counts, AllocError> {
     let accepted = accepted_of(rt, texts.0);
@@ -213,10 +218,10 @@ fn counts_of<R: Abort + AllocGlobal>(
 }
 
 /// A contract, a ledger of it, how often it is changed, and what is then answered.
-type Case = (&'static str, &'static str, u32, Counts);
+type ChangedCase = (&'static str, &'static str, u32, Counts);
 
 /// Ledgers that are changed at any byte.
-const ANYWHERE: [Case; 2] = [
+const ANYWHERE: [ChangedCase; 2] = [
     (
         AUCTION,
         AUCTION_BIDDEN,
@@ -244,7 +249,7 @@ const ANYWHERE: [Case; 2] = [
 ];
 
 /// Ledgers of which numbers are changed.
-const AT_NUMBERS: [Case; 4] = [
+const AT_NUMBERS: [ChangedCase; 4] = [
     (
         AUCTION,
         AUCTION_BIDDEN,
@@ -296,7 +301,11 @@ const AT_NUMBERS: [Case; 4] = [
 ];
 
 // Asserts what is answered of ledgers that are changed so.
-fn assert_counts<R: Abort + AllocGlobal>(rt: &R, way: Way, cases: &[Case]) -> Result<(), Fail> {
+fn assert_counts<R: Abort + AllocGlobal>(
+    rt: &R,
+    way: ChangeWay,
+    cases: &[ChangedCase],
+) -> Result<(), Fail> {
     for case in cases {
         let (contract, ledger, times, wanted) = *case;
         let counts = counts_of(rt, (contract, ledger), way, times)?;
@@ -307,10 +316,10 @@ fn assert_counts<R: Abort + AllocGlobal>(rt: &R, way: Way, cases: &[Case]) -> Re
 
 #[test]
 fn ledgers_changed_anywhere(rt: HostRuntime) -> Result<(), Fail> {
-    assert_counts(&rt, Way::Anywhere, &ANYWHERE)
+    assert_counts(&rt, ChangeWay::Anywhere, &ANYWHERE)
 }
 
 #[test]
 fn ledgers_changed_at_numbers(rt: HostRuntime) -> Result<(), Fail> {
-    assert_counts(&rt, Way::AtNumbers, &AT_NUMBERS)
+    assert_counts(&rt, ChangeWay::AtNumbers, &AT_NUMBERS)
 }

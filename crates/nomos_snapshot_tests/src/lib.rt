@@ -3,7 +3,7 @@
 #![tactic(auto)]
 
 #[cfg(test)]
-mod accepted;
+mod accepted_texts;
 #[cfg(test)]
 mod answer;
 #[cfg(test)]
@@ -11,10 +11,10 @@ mod carried_tests;
 #[cfg(test)]
 mod changed_tests;
 #[cfg(test)]
-mod contracts;
-#[cfg(test)]
 mod line_tests;
 #[cfg(test)]
-mod load_tests;
+mod loading_tests;
 #[cfg(test)]
 mod programs;
+#[cfg(test)]
+mod saved_contracts;

@@ -3,8 +3,8 @@
 use crate::programs::example_program;
 use nomos_ir::program::Program;
 use nomos_snapshot::line::SnapshotLine;
-use nomos_snapshot::reading::LineReader;
-use nomos_snapshot::writing::push_line;
+use nomos_snapshot::line_reader::LineReader;
+use nomos_snapshot::line_writing::push_line;
 use std::alloc::{AllocError, Global};
 use std::process::Abort;
 use std::test::Fail;

@@ -10,7 +10,7 @@ use Rattle.nomos_surface.specs.declared.steps.ChanAt.{ChanAt}
 use Rattle.nomos_surface.specs.declared.steps.ChanAt.TheVariants as chan
 use Rattle.nomos_syntax.specs.declared.symbol.Symbol.TheVariants as sym
 use Rattle.nomos_syntax.specs.Lexeme.{Placed}
-use Rattle.nomos_surface.specs.Shown.{Printer, sign, keyword, print_name, print_more, print_parted}
+use Rattle.nomos_surface.specs.Printed.{Printer, sign, keyword, print_name, print_more, print_parted}
 use Rattle.nomos_surface.specs.Print.{print_potential, print_value_type, print_heading, print_term, print_chan, print_named, print_args, print_step, print_steps, print_code, print_last, print_arms}
 use Rattle.nomos_surface.specs.Grammatical.{Each, AreArguments, IsStep, HasArms, IsCode, IsLast, AreArms}
 use Rattle.nomos_surface.specs.Tree.{ArgTrees, StepTree, label, send, recv, put, taking, pay, getting, work, wait, accept, detach, acquire, release, spawn, binding, empty_list, longer_list, emit, CodeTree, code, LastTree, close, fwd, calling, code_if, case, code_match, ArmTrees, no_arms, arm}

@@ -2,7 +2,7 @@
 use Rattle.std.proofs.Common.{◌≡◌, List, [], ◌∷◌, refl, ap, subst}
 use Rattle.nomos_grammar.specs.declared.part.Nonterminal.TheVariants as the_production
 use Rattle.nomos_grammar.specs.declared.part.Part.{Part}
-use Rattle.nomos_grammar.specs.Counting.{Counts, after_token}
+use Rattle.nomos_grammar.specs.CountedPlaces.{Counts, after_token}
 use Rattle.nomos_grammar.specs.Producing.{first, later}
 use Rattle.nomos_grammar.specs.Grammar.{the, NAME}
 use Rattle.nomos_surface.proofs.ListsWalked.{list_walks, each_mapped_walks, each_kept_walks}
@@ -18,7 +18,7 @@ use Rattle.nomos_surface.specs.declared.steps.ChanAt.TheVariants as chan
 use Rattle.nomos_surface.specs.Grammatical.{Each, IsTerm, AreArguments, IsStep, IsCode, IsLast, AreArms}
 use Rattle.nomos_surface.specs.mirror.Shallow.{ShallowName, ShallowChan, ShallowTerm, ShallowArgs, ShallowStep, ShallowCode, ShallowLast, ShallowArms}
 use Rattle.nomos_surface.specs.Print.{print_term, print_named, print_last, print_arms}
-use Rattle.nomos_surface.specs.Shown.{Shown, Printer}
+use Rattle.nomos_surface.specs.Printed.{Shown, Printer}
 use Rattle.nomos_surface.specs.Tree.{TermTree, ArgTrees, StepTree, label, send, recv, put, taking, pay, getting, work, wait, accept, detach, acquire, release, spawn, binding, empty_list, longer_list, emit, CodeTree, code, LastTree, close, fwd, calling, code_if, case, code_match, ArmTrees, no_arms, arm}
 use Rattle.nomos_syntax.specs.declared.symbol.Symbol.TheVariants as sym
 

@@ -2,7 +2,7 @@
 use Rattle.std.proofs.Common.{◌≤◌, ◌+◌, ℕ, List, [], ◌∷◌, length, Option, Some, None, arith}
 use Rattle.nomos_grammar.specs.declared.part.Nonterminal.TheVariants as the_production
 use Rattle.nomos_grammar.specs.declared.part.Part.{Part}
-use Rattle.nomos_grammar.specs.Counting.{Counts, nothing_counted, after_token}
+use Rattle.nomos_grammar.specs.CountedPlaces.{Counts, nothing_counted, after_token}
 use Rattle.nomos_grammar.specs.Producing.{first, later}
 use Rattle.nomos_grammar.specs.Grammar.{the}
 use Rattle.nomos_grammar.specs.Offence.{AllKeep, star_limit}
@@ -28,11 +28,11 @@ use Rattle.nomos_surface.specs.declared.value_type.ValueType.{ValueType}
 use Rattle.nomos_surface.specs.Grammatical.{Each, IsCode, IsChanPar, ArePars, IsDecl, IsGrammatical}
 use Rattle.nomos_surface.specs.mirror.Shallow.{ShallowListPotential, ShallowValueType, ShallowValuePar, ShallowPar, ShallowChanPar, ShallowPars, ShallowCode, ShallowDecl}
 use Rattle.nomos_surface.specs.Print.{print_value_par, print_par, print_chan_par, print_file}
-use Rattle.nomos_surface.specs.Shown.{Shown, Spells}
+use Rattle.nomos_surface.specs.Printed.{Shown, Spells}
 use Rattle.nomos_surface.specs.Tree.{CodeTree, ChanParTree, ParTrees, DeclTree, definition, function, process, transaction, FileTree}
 use Rattle.nomos_syntax.specs.declared.symbol.Symbol.TheVariants as sym
 use Rattle.nomos_syntax.specs.Lexeme.{Placed}
-use Rattle.nomos_syntax.specs.Limits.{nesting_limit, node_limit}
+use Rattle.nomos_syntax.specs.TextLimits.{nesting_limit, node_limit}
 
 -- parameters
 

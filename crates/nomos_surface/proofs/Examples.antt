@@ -7,7 +7,7 @@ use Rattle.nomos_surface.specs.declared.declarations.OfferedMode.TheVariants as 
 use Rattle.nomos_surface.specs.declared.terms.Operator.TheVariants as operator
 use Rattle.nomos_surface.specs.Grammatical.{IsTerm, is_mul, is_number, is_parenthesized, is_primary, is_product, is_sum, is_add, is_disjunction, is_conjunction, is_negation, is_comparison, is_list_term}
 use Rattle.nomos_surface.specs.Print.{print_file, print_term}
-use Rattle.nomos_surface.specs.Shown.{at_offset, number_at, sign, sign_at, keyword, keyword_at}
+use Rattle.nomos_surface.specs.Printed.{at_offset, number_at, sign, sign_at, keyword, keyword_at}
 use Rattle.nomos_surface.specs.Tree.{FileTree, TermTree, definition, one, binary, number, parenthesized}
 use Rattle.nomos_syntax.specs.declared.symbol.Symbol.TheVariants as sym
 use Rattle.nomos_syntax.specs.Lexeme.{name, number as number_text}

@@ -8,7 +8,7 @@ use Rattle.nomos_grammar.specs.declared.part.Terminal.TheVariants as terminal
 use Rattle.nomos_grammar.specs.Producing.{Fits, terminal_of}
 use Rattle.nomos_ir.specs.declared.word.Word.{Word}
 use Rattle.nomos_surface.specs.declared.name_at.NameAt.{NameAt}
-use Rattle.nomos_surface.specs.Shown.{at_offset, number_at, HasValue, Meets, sign, sign_at, keyword, keyword_at, print_name}
+use Rattle.nomos_surface.specs.Printed.{at_offset, number_at, HasValue, Meets, sign, sign_at, keyword, keyword_at, print_name}
 use Rattle.nomos_syntax.specs.declared.symbol.Symbol.{Symbol}
 use Rattle.nomos_syntax.specs.Lexeme.{Lexeme, name, reserved, number, symbol, bad, Placed}
 

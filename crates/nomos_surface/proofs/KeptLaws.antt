@@ -17,15 +17,15 @@ use Rattle.nomos_surface.specs.declared.types.Sender.TheVariants as sender
 use Rattle.nomos_surface.specs.declared.value_type.ValueType.{ValueType}
 use Rattle.nomos_surface.specs.TreeBounds.{KeepsName, KeepsChan, KeepsQuantity, KeepsPotential, KeepsOptional, KeepsValueType, KeepsType, KeepsBranches, KeepsTerm, KeepsTerms, KeepsArgs, KeepsStep, KeepsCode, KeepsLast, KeepsArms, KeepsValuePar, KeepsListPotential, KeepsPar, KeepsChanPar, KeepsPars, KeepsDecl}
 use Rattle.nomos_surface.specs.Grammatical.{Each}
-use Rattle.nomos_surface.specs.mirror.Kept.{IsKeptLexeme, IsKept, AllKept, none_kept, more_kept, Tells}
+use Rattle.nomos_surface.specs.mirror.PrintedNames.{IsKeptLexeme, IsKept, AllKept, none_kept, more_kept, Tells}
 use Rattle.nomos_surface.specs.mirror.Shallow.{ShallowName, ShallowValueType, ShallowType, ShallowBranches, ShallowTerm, ShallowTerms, ShallowArgs, ShallowStep, ShallowCode, ShallowLast, ShallowArms, ShallowValuePar, ShallowPar, ShallowChanPar, ShallowPars, ShallowDecl}
 use Rattle.nomos_surface.specs.Print.{print_quantity, print_potential, print_optional, print_lists, print_value_type, print_payment, print_type, print_branches, print_term, print_terms, print_chan, print_named, print_args, print_step, print_steps, print_code, print_last, print_arms, print_value_par, print_list_potential, print_par, print_chan_par, print_pars, print_body, print_decl, print_decls, print_cost, print_file}
-use Rattle.nomos_surface.specs.Shown.{Shown, anywhere, at_offset, number_at, HasValue, Meets, Spells, Printer, print_more, print_parted}
+use Rattle.nomos_surface.specs.Printed.{Shown, anywhere, at_offset, number_at, HasValue, Meets, Spells, Printer, print_more, print_parted}
 use Rattle.nomos_surface.specs.Tree.{TypeTree, one, named, choice, channel, valued, paying, going_up, going_down, grouped, BranchTrees, no_branches, branch, TermTree, number, truth, me, variable, application, no_items, binary, negation, choosing, matching, parenthesized, TermTrees, no_terms, term, ArgTrees, StepTree, label, send, recv, put, taking, pay, getting, work, wait, accept, detach, acquire, release, spawn, binding, empty_list, longer_list, emit, CodeTree, code, LastTree, close, fwd, calling, code_if, case, code_match, ArmTrees, no_arms, arm, ChanParTree, ParTrees, DeclTree, definition, function, process, transaction, FileTree}
 use Rattle.nomos_syntax.specs.declared.symbol.Symbol.{Symbol}
 use Rattle.nomos_syntax.specs.declared.symbol.Symbol.TheVariants as sym
 use Rattle.nomos_syntax.specs.Lexeme.{Lexeme, name, reserved, number as number_text, symbol, bad, Placed}
-use Rattle.nomos_syntax.specs.Limits.{IsShort}
+use Rattle.nomos_syntax.specs.TextLimits.{IsShort}
 use Rattle.nomos_syntax.specs.NamedTokens.{IsWellNamed}
 
 -- from tokens that keep to the rules to what is printed

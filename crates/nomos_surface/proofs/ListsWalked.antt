@@ -8,7 +8,7 @@ use Rattle.nomos_surface.proofs.PrintLaws.{StandsFor, more_stand, parted_stand, 
 use Rattle.nomos_surface.proofs.Walked.{none, joined, WalksFor}
 use Rattle.nomos_surface.specs.Counts.{Count, in_each}
 use Rattle.nomos_surface.specs.Grammatical.{Each}
-use Rattle.nomos_surface.specs.Shown.{Printer}
+use Rattle.nomos_surface.specs.Printed.{Printer}
 use Rattle.nomos_syntax.specs.declared.symbol.Symbol.{Symbol}
 
 -- what counts in each, and what holds of each

@@ -29,7 +29,7 @@ use Rattle.nomos_surface.specs.declared.value_type.ValueType.{ValueType}
 use Rattle.nomos_syntax.specs.declared.symbol.Symbol.{Symbol}
 use Rattle.nomos_syntax.specs.declared.symbol.Symbol.TheVariants as sym
 use Rattle.nomos_syntax.specs.Lexeme.{Placed}
-use Rattle.nomos_surface.specs.Shown.{Shown, Printer, Spells, sign, sign_at, keyword, keyword_at, print_name, print_more, print_parted}
+use Rattle.nomos_surface.specs.Printed.{Shown, Printer, Spells, sign, sign_at, keyword, keyword_at, print_name, print_more, print_parted}
 use Rattle.nomos_surface.specs.Print.{print_quantity, print_potential, print_optional, print_lists, print_value_type, base_word, print_payment, choice_sign, channel_sign, value_sign, print_type, print_branches, truth_word, print_heading, print_term, print_terms, print_chan, print_named, print_args, print_step, print_steps, print_code, print_last, print_arms, print_value_par, print_list_potential, print_par, print_chan_par, print_pars, mode_word, print_body, print_decl, print_decls, cost_word, print_cost, print_file}
 use Rattle.nomos_surface.specs.Grammatical.{Each, IsType, is_up, is_down, is_paying, is_valued, is_channel, is_atom, is_one, is_named, is_choice, is_grouped, AreBranches, last_branch, more_branches, IsTerm, is_choosing, is_matching, is_disjunction, is_or, is_conjunction, is_and, is_negation, is_not, is_comparison, is_less, is_equal, is_list_term, is_cons, is_sum, is_add, is_sub, is_product, is_mul, is_div, is_rem, is_primary, is_number, is_truth, is_me, is_variable, is_application, is_no_items, is_parenthesized, AreTerms, are_none, are_more, AreArguments, IsStep, IsCode, IsLast, AreArms, IsChanPar, ArePars, IsDecl, IsGrammatical}
 use Rattle.nomos_surface.specs.Tree.{TypeTree, BranchTrees, TermTree, TermTrees, ArgTrees, StepTree, label, send, recv, put, taking, pay, getting, work, wait, accept, detach, acquire, release, spawn, binding, empty_list, longer_list, emit, CodeTree, code, LastTree, close, fwd, calling, code_if, case, code_match, ArmTrees, no_arms, arm, ChanParTree, ParTrees, DeclTree, definition, function, process, transaction, FileTree}

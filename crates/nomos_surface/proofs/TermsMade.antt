@@ -9,7 +9,7 @@ use Rattle.nomos_ir.specs.declared.word.Word.TheVariants as word
 use Rattle.nomos_surface.specs.declared.terms.Operator.TheVariants as operator
 use Rattle.nomos_syntax.specs.declared.symbol.Symbol.TheVariants as sym
 use Rattle.nomos_syntax.specs.Lexeme.{Placed}
-use Rattle.nomos_surface.specs.Shown.{Printer, sign, sign_at, keyword, keyword_at, print_more, print_parted}
+use Rattle.nomos_surface.specs.Printed.{Printer, sign, sign_at, keyword, keyword_at, print_more, print_parted}
 use Rattle.nomos_surface.specs.Print.{print_heading, print_term, print_terms}
 use Rattle.nomos_surface.specs.Grammatical.{Each, IsTerm, is_choosing, is_matching, is_disjunction, is_or, is_conjunction, is_and, is_negation, is_not, is_comparison, is_less, is_equal, is_list_term, is_cons, is_sum, is_add, is_sub, is_product, is_mul, is_div, is_rem, is_primary, is_number, is_truth, is_me, is_variable, is_application, is_no_items, is_parenthesized, AreTerms, are_none, are_more}
 use Rattle.nomos_surface.specs.Tree.{TermTree, number, truth, me, variable, application, no_items, binary, negation, choosing, matching, parenthesized}

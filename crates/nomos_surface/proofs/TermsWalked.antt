@@ -3,7 +3,7 @@ use Rattle.std.proofs.Common.{ℕ, Bool, true, false, List, ◌++◌}
 use Rattle.nomos_grammar.specs.declared.part.Nonterminal.{Nonterminal}
 use Rattle.nomos_grammar.specs.declared.part.Nonterminal.TheVariants as the_production
 use Rattle.nomos_grammar.specs.declared.part.Part.{Part}
-use Rattle.nomos_grammar.specs.Counting.{Counts}
+use Rattle.nomos_grammar.specs.CountedPlaces.{Counts}
 use Rattle.nomos_grammar.specs.Producing.{first, later}
 use Rattle.nomos_grammar.specs.Grammar.{the}
 use Rattle.nomos_surface.proofs.PrintLaws.{more_stand, parted_stand, list_stand, behind, truth_stands, heading_stands, arguments_stand, term_stands, each_term}
@@ -15,7 +15,7 @@ use Rattle.nomos_surface.specs.declared.name_at.NameAt.{NameAt}
 use Rattle.nomos_surface.specs.Grammatical.{IsTerm, is_choosing, is_matching, is_disjunction, is_or, is_conjunction, is_and, is_negation, is_not, is_comparison, is_less, is_equal, is_list_term, is_cons, is_sum, is_add, is_sub, is_product, is_mul, is_div, is_rem, is_primary, is_number, is_truth, is_me, is_variable, is_application, is_no_items, is_parenthesized, AreTerms, are_none, are_more}
 use Rattle.nomos_surface.specs.mirror.Shallow.{ShallowTerm, ShallowTerms}
 use Rattle.nomos_surface.specs.Print.{print_terms}
-use Rattle.nomos_surface.specs.Shown.{Shown}
+use Rattle.nomos_surface.specs.Printed.{Shown}
 use Rattle.nomos_surface.specs.Tree.{TermTree, TermTrees}
 use Rattle.nomos_syntax.specs.declared.symbol.Symbol.TheVariants as sym
 

@@ -17,7 +17,7 @@ use Rattle.nomos_surface.specs.declared.surface.CostModel.TheVariants as cost
 use Rattle.nomos_surface.specs.declared.value_type.ValueType.{ValueType}
 use Rattle.nomos_syntax.specs.declared.symbol.Symbol.TheVariants as sym
 use Rattle.nomos_syntax.specs.Lexeme.{Placed}
-use Rattle.nomos_surface.specs.Shown.{Printer, Spells, sign, keyword, print_name, print_more, print_parted}
+use Rattle.nomos_surface.specs.Printed.{Printer, Spells, sign, keyword, print_name, print_more, print_parted}
 use Rattle.nomos_surface.specs.Print.{print_optional, print_value_type, print_type, print_term, print_value_par, print_list_potential, print_par, print_chan_par, print_pars, mode_word, print_body, print_decl, print_decls, cost_word, print_cost, print_file}
 use Rattle.nomos_surface.specs.Grammatical.{Each, IsChanPar, ArePars, IsDecl, IsGrammatical}
 use Rattle.nomos_surface.specs.Tree.{ChanParTree, ParTrees, DeclTree, definition, function, process, transaction, FileTree}

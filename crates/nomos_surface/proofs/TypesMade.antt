@@ -15,7 +15,7 @@ use Rattle.nomos_surface.specs.declared.types.Sender.TheVariants as sender
 use Rattle.nomos_surface.specs.declared.value_type.ValueType.{ValueType}
 use Rattle.nomos_syntax.specs.declared.symbol.Symbol.TheVariants as sym
 use Rattle.nomos_syntax.specs.Lexeme.{Placed}
-use Rattle.nomos_surface.specs.Shown.{Shown, Printer, Spells, sign, sign_at, print_name, print_more, print_parted}
+use Rattle.nomos_surface.specs.Printed.{Shown, Printer, Spells, sign, sign_at, print_name, print_more, print_parted}
 use Rattle.nomos_surface.specs.Print.{print_quantity, print_potential, print_optional, print_value_type, value_sign, print_type, print_branches}
 use Rattle.nomos_surface.specs.Grammatical.{IsType, is_up, is_down, is_paying, is_valued, is_channel, is_atom, is_one, is_named, is_choice, is_grouped, AreBranches, last_branch, more_branches}
 use Rattle.nomos_surface.specs.Tree.{TypeTree, one, named, choice, channel, valued, paying, going_up, going_down, grouped, BranchTrees, no_branches, branch}

@@ -3,7 +3,7 @@ use Rattle.std.proofs.Common.{◌≤◌, ◌+◌, ℕ, List, [], ◌∷◌, leng
 use Rattle.nomos_grammar.specs.declared.part.Part.{Part}
 use Rattle.nomos_grammar.specs.declared.part.Nonterminal.{Nonterminal}
 use Rattle.nomos_grammar.specs.declared.part.Nonterminal.TheVariants as the_production
-use Rattle.nomos_grammar.specs.Counting.{Counts}
+use Rattle.nomos_grammar.specs.CountedPlaces.{Counts}
 use Rattle.nomos_grammar.specs.Grammar.{the, CLOSE}
 use Rattle.nomos_ir.specs.declared.kind.Base.{Base}
 use Rattle.nomos_ir.specs.declared.kind.Base.TheVariants as base
@@ -20,9 +20,9 @@ use Rattle.nomos_surface.specs.declared.value_type.ValueType.{ValueType}
 use Rattle.nomos_surface.specs.Grammatical.{IsType, is_up, is_down, is_paying, is_valued, is_channel, is_atom, is_one, is_named, is_choice, is_grouped, AreBranches, last_branch, more_branches}
 use Rattle.nomos_surface.specs.mirror.Shallow.{ShallowQuantity, ShallowPotential, ShallowOptional, ShallowValueType, ShallowType, ShallowBranches}
 use Rattle.nomos_surface.specs.Print.{print_branches}
-use Rattle.nomos_surface.specs.Shown.{Shown, Printer}
+use Rattle.nomos_surface.specs.Printed.{Shown, Printer}
 use Rattle.nomos_surface.specs.Tree.{TypeTree, BranchTrees}
-use Rattle.nomos_syntax.specs.Limits.{nesting_limit}
+use Rattle.nomos_syntax.specs.TextLimits.{nesting_limit}
 
 -- potentials
 

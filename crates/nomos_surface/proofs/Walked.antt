@@ -1,14 +1,14 @@
 -- What counts at the tokens that parts yield, and what counts behind them.
 use Rattle.std.proofs.Common.{◌≡◌, ◌+◌, List, [], ◌∷◌, ◌++◌, refl, sym, ap, subst, ◌∙◌, arith}
 use Rattle.nomos_grammar.specs.declared.part.Part.{Part}
-use Rattle.nomos_grammar.specs.Counting.{Counts, nothing_counted, after_mark, after_token, counts_from}
+use Rattle.nomos_grammar.specs.CountedPlaces.{Counts, nothing_counted, after_mark, after_token, counts_from}
 use Rattle.nomos_grammar.specs.Producing.{Event, token, mark, tokens_in, Produces, file}
 use Rattle.nomos_grammar.specs.Offence.{AllKeep}
 use Rattle.nomos_grammar.proofs.LimitLaws.{IsWithinLimits, kept_within}
 use Rattle.nomos_surface.proofs.PrintLaws.{StandsFor}
 use Rattle.nomos_surface.proofs.Yields.{Yields, ends, shows, passes, chooses, yields-derives}
 use Rattle.nomos_surface.specs.Counts.{Count, nothing, nodes as nodes_alone, ◌⊕◌}
-use Rattle.nomos_surface.specs.Shown.{Shown, Spells}
+use Rattle.nomos_surface.specs.Printed.{Shown, Spells}
 use Rattle.nomos_syntax.specs.Lexeme.{Placed}
 
 -- at each token what counts is within the limits

@@ -12,7 +12,7 @@ use Rattle.nomos_grammar.specs.Producing.{Fits, terminal_of, Event, token, mark,
 use Rattle.nomos_grammar.specs.Grammar.{alternatives}
 use Rattle.nomos_ir.specs.declared.word.Word.{Word}
 use Rattle.nomos_surface.specs.declared.name_at.NameAt.{NameAt}
-use Rattle.nomos_surface.specs.Shown.{Shown, at_offset, number_at, HasValue, Meets, Spells, sign, sign_at, keyword, keyword_at, print_name}
+use Rattle.nomos_surface.specs.Printed.{Shown, at_offset, number_at, HasValue, Meets, Spells, sign, sign_at, keyword, keyword_at, print_name}
 use Rattle.nomos_syntax.specs.declared.symbol.Symbol.{Symbol}
 use Rattle.nomos_syntax.specs.Lexeme.{Lexeme, name, reserved, number, symbol, bad, Placed}
 

@@ -6,7 +6,7 @@ pub mod Grammatical
 pub mod mirror
 pub mod Print
 pub mod TreeReading
-pub mod Shown
+pub mod Printed
 pub mod StepView
 pub mod TermView
 pub mod Tree

@@ -3,7 +3,7 @@ use Rattle.std.specs.Prelude.{ℕ, List, []}
 use Rattle.nomos_grammar.specs.Offence.{AllKeep}
 use Rattle.nomos_surface.specs.Grammatical.{IsGrammatical}
 use Rattle.nomos_surface.specs.Print.{print_file}
-use Rattle.nomos_surface.specs.Shown.{Spells}
+use Rattle.nomos_surface.specs.Printed.{Spells}
 use Rattle.nomos_surface.specs.Tree.{FileTree}
 use Rattle.nomos_syntax.specs.Lexeme.{Placed}
 use Rattle.nomos_syntax.specs.Reading.{IsPlainText}

@@ -1,3 +1,3 @@
 -- Mirrors of the code, on which no promise stands.
-pub mod Kept
+pub mod PrintedNames
 pub mod Shallow

@@ -2,7 +2,7 @@ pub mod Lexeme
 pub mod NamedTokens
 pub mod Spelling
 pub mod Scan
-pub mod Limits
+pub mod TextLimits
 pub mod Spans
 pub mod Found
 pub mod Reading

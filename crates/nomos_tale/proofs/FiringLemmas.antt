@@ -9,7 +9,7 @@ use Rattle.nomos_legal.specs.World.{WorldState, ledger_begun}
 use Rattle.nomos_legal.specs.declared.journal.End.{End}
 use Rattle.nomos_legal.specs.declared.journal.End.TheVariants as end
 use Rattle.nomos_ledger.specs.Running.{MayRun}
-use Rattle.nomos_watch.proofs.StartLaws.{fresh-start}
+use Rattle.nomos_ledger.proofs.StartLaws.{fresh-start}
 use Rattle.nomos_tale.specs.mirror.Choices.{EndsHere, HasFiredOn}
 
 -- an end that a state gives is allowed

@@ -1,11 +1,11 @@
 //! What is told of a firing behind it: what came to be, and what the process knows now.
-use crate::words::{Actor, name_at, push_found, push_pair};
+use crate::tale_words::{Actor, name_at, push_found, push_pair};
 use nomos_deeds::machine::Machine;
 use nomos_deeds::sight::Sight;
 use nomos_ir::code_node::{Chan, CodeNode};
 use nomos_ir::ids::{CodeId, VarId};
 use nomos_ir::value::Value;
-use nomos_texts::value::push_value;
+use nomos_texts::value_texts::push_value;
 use std::alloc::AllocError;
 
 /// How far a state was before a firing: the number of its next object, and how many values were emitted.

@@ -3,7 +3,7 @@ ghost use Rattle.std.specs.Prelude.{All};
 ghost use Rattle.nomos_ir.specs.CodeParts.{code_amounts};
 ghost use Rattle.nomos_types.specs.Acceptance.{IsAmountOf};
 
-use crate::words::{Actor, name_at, push_found, push_name, push_pair};
+use crate::tale_words::{Actor, name_at, push_found, push_name, push_pair};
 use nomos_deeds::sight::{SeenPayload, Sight};
 use nomos_ir::amount::Amount;
 use nomos_ir::code_node::{Chan, CodeNode};

@@ -2,14 +2,14 @@
 #![tactic(auto)]
 
 mod after;
-mod batch;
+mod batch_tale;
 mod before;
-mod choosing;
-mod firing;
-mod kept;
+mod firing_tale;
+mod kept_journal;
+mod next_firing;
 pub mod order;
 mod starts;
 pub mod tale;
+mod tale_words;
 mod teller;
 pub mod untold;
-mod words;

@@ -1,5 +1,5 @@
 //! What is told of the processes that the lines of a batch start.
-use crate::words::{push_name, push_pair};
+use crate::tale_words::{push_name, push_pair};
 use nomos_base::push_gas;
 use nomos_deeds::machine::Machine;
 use nomos_script::item::{ScriptItem, Start};

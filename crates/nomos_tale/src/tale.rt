@@ -8,7 +8,7 @@ ghost use Rattle.nomos_ledger.specs.Running.{MayRun};
 ghost use Rattle.nomos_walk.specs.Walks.{HasBegunBatch, HasRoomFor};
 ghost use Rattle.nomos_tale.specs.mirror.Tales.{IsTold};
 
-use crate::batch::fire_all;
+use crate::batch_tale::fire_all;
 use crate::order::Order;
 use crate::starts::push_starts;
 use crate::teller::Teller;
@@ -16,13 +16,13 @@ use crate::untold::Untold;
 use nomos_deeds::machine::Machine;
 use nomos_deeds::undo::Undo;
 use nomos_ledger::ledger::Ledger;
+use nomos_ledger::watched::Watched;
 use nomos_script::item::ScriptItem;
 use nomos_script::script::Script;
 use nomos_types::accepted::Accepted;
 use nomos_walk::papers::WantedTexts;
 use nomos_walk::started::{BatchUnderWay, PassedItem, StartedItem};
 use nomos_walk::walk::Walk;
-use nomos_watch::watched::Watched;
 use std::alloc::Global;
 
 // Fires a batch to its end, tells its firings and the end, and finishes it.

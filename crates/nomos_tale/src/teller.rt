@@ -2,11 +2,11 @@
 ghost use Rattle.std.specs.Prelude.{IfOk, IfSome};
 ghost use Rattle.nomos_legal.specs.Legal.{IsLimit};
 
-use crate::choosing::Chooser;
-use crate::kept::KeptJournal;
+use crate::kept_journal::KeptJournal;
+use crate::next_firing::TaleChooser;
 use crate::order::Order;
+use crate::tale_words::push_pair;
 use crate::untold::Untold;
-use crate::words::push_pair;
 use nomos_ir::limits::USUAL_LIMIT;
 use nomos_legal::journal::End;
 use nomos_texts::end::push_end;
@@ -16,7 +16,7 @@ use std::alloc::{AllocError, Global};
 #[derive(Drop)]
 pub(crate) struct Teller<'a> {
     pub(crate) text: Vec<u8>,
-    pub(crate) chooser: Chooser<'a>,
+    pub(crate) chooser: TaleChooser<'a>,
 }
 
 // How a process is chosen in an order, and the most firings of a batch.
@@ -25,20 +25,20 @@ fn chooser_of<'a>(
     unit: u32,
     order: Order<'a>,
     steps: Option<u32>,
-) -> Result<(Chooser<'a>, u32), Untold>
+) -> Result<(TaleChooser<'a>, u32), Untold>
     requires { IfSome steps IsLimit }
     ensures { IfOk result (λ chosen. IsLimit chosen.1) }
 {
     let limit = steps.unwrap_or(USUAL_LIMIT);
     match order {
-        Order::First => Ok((Chooser::First, limit)),
-        Order::Round => Ok((Chooser::Round(0), limit)),
-        Order::Seed(seed) => Ok((Chooser::Seed(seed), limit)),
+        Order::First => Ok((TaleChooser::First, limit)),
+        Order::Round => Ok((TaleChooser::Round(0), limit)),
+        Order::Seed(seed) => Ok((TaleChooser::Seed(seed), limit)),
         Order::Kept(text) => {
             let (kept, limit) = KeptJournal::open(alloc, unit, text)?;
             match steps {
                 Some(steps) if steps != limit => Err(Untold::Unfit(2)),
-                _ => Ok((Chooser::Kept(kept), limit)),
+                _ => Ok((TaleChooser::Kept(kept), limit)),
             }
         }
     }
@@ -79,14 +79,14 @@ impl<'a> Teller<'a> {
 
     /// A batch begins: the first look is for the lowest.
     pub(crate) fn begin_batch(&mut self) {
-        if let Chooser::Round(last) = &mut self.chooser {
+        if let TaleChooser::Round(last) = &mut self.chooser {
             *last = 0;
         }
     }
 
     // Tells a line of the journal, which is that of the one that is kept.
     fn line(&mut self, told: &[u8]) -> Result<(), Untold> {
-        if let Chooser::Kept(kept) = &mut self.chooser {
+        if let TaleChooser::Kept(kept) = &mut self.chooser {
             kept.meet(told)?;
         }
         push_line(&mut self.text, told, b"")?;
@@ -109,7 +109,7 @@ impl<'a> Teller<'a> {
 
     /// Tells a firing, as the journal has it, and what is said of it.
     pub(crate) fn firing(&mut self, told: &[u8], words: &[u8]) -> Result<(), Untold> {
-        if let Chooser::Kept(kept) = &mut self.chooser {
+        if let TaleChooser::Kept(kept) = &mut self.chooser {
             kept.meet_firing(told)?;
         }
         push_line(&mut self.text, told, words)?;
@@ -118,7 +118,7 @@ impl<'a> Teller<'a> {
 
     /// The whole tale, where nothing is left of the journal that is kept.
     pub(crate) fn into_text(self) -> Result<Vec<u8>, Untold> {
-        if let Chooser::Kept(kept) = &self.chooser {
+        if let TaleChooser::Kept(kept) = &self.chooser {
             kept.meet_end()?;
         }
         Ok(self.text)

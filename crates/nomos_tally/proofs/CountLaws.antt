@@ -20,18 +20,18 @@ use Rattle.nomos_machine.proofs.RenameLaws.{instead-based, instead-provides, ins
 use Rattle.nomos_types.proofs.OccurrenceLaws.{count-elsewhere, count-here}
 use Rattle.nomos_slots.specs.declared.numbered.Slot.{Slot}
 use Rattle.nomos_tally.specs.Tallying.{AreRight, Shifts, channels_used, names_of, nothing, only}
-use Rattle.nomos_tally.specs.declared.tally.Doing.{Doing}
-use Rattle.nomos_tally.specs.declared.tally.Doing.TheVariants as doing
+use Rattle.nomos_tally.specs.declared.tally.NameUse.{NameUse}
+use Rattle.nomos_tally.specs.declared.tally.NameUse.TheVariants as doing
 use Rattle.nomos_tally.specs.declared.tally.Tally.{Tally}
 
 -- What becomes of the names of an object: these fewer, and these more, where another object comes, or none.
-abbrev pub Exchanges : Object → Option Object → (Doing → List ℕ) → (Doing → List ℕ) → Type 0
-Exchanges o new less more = (d : Doing) (name : ℕ)
+abbrev pub Exchanges : Object → Option Object → (NameUse → List ℕ) → (NameUse → List ℕ) → Type 0
+Exchanges o new less more = (d : NameUse) (name : ℕ)
     → times (names_of d) (option_to_list new) name + count_of name (less d)
     ≡ count_of name (names_of d o) + count_of name (more d)
 
 -- what a process does with names by its plain fields
-abbrev pub fields_of : Process → Doing → List ℕ
+abbrev pub fields_of : Process → NameUse → List ℕ
 fields_of p doing.Provides = p.offers ∷ []
 fields_of p doing.Uses = []
 fields_of p doing.Bases = option_to_list p.base
@@ -40,7 +40,7 @@ fields_of p doing.Bases = option_to_list p.base
 
 module _ (before after : List (Slot Tally)) (objects : List Object) (right : AreRight before objects) where
   -- another object stands at a number, or none
-  pub right-put : (o : Object) (new : Option Object) (less more : Doing → List ℕ)
+  pub right-put : (o : Object) (new : Option Object) (less more : NameUse → List ℕ)
       → object_at objects (object_number o) ≡ Some o → Exchanges o new less more → Shifts before after less more
       → AreRight after (put_at (object_number o) new objects)
   right-put o new less more found exchanges shifts d name =
@@ -65,7 +65,7 @@ module _ (before after : List (Slot Tally)) (objects : List Object) (right : Are
 
 -- ---- one object
 
-one-of : (d : Doing) (o : Object) (name : ℕ) → times (names_of d) (o ∷ []) name ≡ count_of name (names_of d o)
+one-of : (d : NameUse) (o : Object) (name : ℕ) → times (names_of d) (o ∷ []) name ≡ count_of name (names_of d o)
 one-of d o name = omega (arith, sum_by-cons (λ (e : Object). count_of name (names_of d e)) o [])
 
 -- it leaves
@@ -73,8 +73,8 @@ pub leaving-exchanges : (o : Object) → Exchanges o None (λ d. names_of d o) n
 leaving-exchanges o d name = omega arith
 
 -- an object in the place of another, of which the two lists say what is done less and more
-one-exchanges : (o q : Object) (less more : Doing → List ℕ)
-    → ((d : Doing) (name : ℕ) → count_of name (names_of d q) + count_of name (less d)
+one-exchanges : (o q : Object) (less more : NameUse → List ℕ)
+    → ((d : NameUse) (name : ℕ) → count_of name (names_of d q) + count_of name (less d)
     ≡ count_of name (names_of d o) + count_of name (more d))
     → Exchanges o (Some q) less more
 one-exchanges o q less more each d name = omega (arith, one-of d q name, each d name)
@@ -84,7 +84,7 @@ pub fields-exchanges : (p q : Process) → q.channels ≡ p.channels
     → Exchanges (object.Process p) (Some (object.Process q)) (fields_of p) (fields_of q)
 fields-exchanges p q same = one-exchanges (object.Process p) (object.Process q) (fields_of p) (fields_of q) each
   where
-    each : (d : Doing) (name : ℕ)
+    each : (d : NameUse) (name : ℕ)
         → count_of name (names_of d (object.Process q)) + count_of name (fields_of p d)
         ≡ count_of name (names_of d (object.Process p)) + count_of name (fields_of q d)
     each doing.Provides name = omega arith
@@ -99,7 +99,7 @@ binding-exchanges p v k ascending =
     one-exchanges (object.Process p) (object.Process (with_channel v k p))
     (only doing.Uses (option_to_list (bound_to v.0 p.channels))) (only doing.Uses (k ∷ [])) each
   where
-    each : (d : Doing) (name : ℕ)
+    each : (d : NameUse) (name : ℕ)
         → count_of name (names_of d (object.Process (with_channel v k p)))
         + count_of name (only doing.Uses (option_to_list (bound_to v.0 p.channels)) d)
         ≡ count_of name (names_of d (object.Process p)) + count_of name (only doing.Uses (k ∷ []) d)
@@ -115,7 +115,7 @@ unbinding-exchanges p v =
     one-exchanges (object.Process p) (object.Process (without_channel v p))
     (only doing.Uses (option_to_list (bound_to v.0 p.channels))) (only doing.Uses []) each
   where
-    each : (d : Doing) (name : ℕ)
+    each : (d : NameUse) (name : ℕ)
         → count_of name (names_of d (object.Process (without_channel v p)))
         + count_of name (only doing.Uses (option_to_list (bound_to v.0 p.channels)) d)
         ≡ count_of name (names_of d (object.Process p)) + count_of name (only doing.Uses [] d)
@@ -129,7 +129,7 @@ pub channels-exchanges : (p q : Process) → q.offers ≡ p.offers → q.base �
 channels-exchanges p q offers base =
     one-exchanges (object.Process p) (object.Process q) (channels_used p) (channels_used q) each
   where
-    each : (d : Doing) (name : ℕ)
+    each : (d : NameUse) (name : ℕ)
         → count_of name (names_of d (object.Process q)) + count_of name (channels_used p d)
         ≡ count_of name (names_of d (object.Process p)) + count_of name (channels_used q d)
     each doing.Provides name = ap (λ (n : ℕ). count_of name (n ∷ []) + 0) offers
@@ -186,7 +186,7 @@ pub instead-exchanges : (old new : ℕ) (o : Object) → count_of old (names_of 
 instead-exchanges old new o once =
     one-exchanges o (uses_instead old new o) (only doing.Uses (old ∷ [])) (only doing.Uses (new ∷ [])) each
   where
-    each : (d : Doing) (name : ℕ)
+    each : (d : NameUse) (name : ℕ)
         → count_of name (names_of d (uses_instead old new o)) + count_of name (only doing.Uses (old ∷ []) d)
         ≡ count_of name (names_of d o) + count_of name (only doing.Uses (new ∷ []) d)
     each doing.Provides name = ap (λ (ns : List ℕ). count_of name ns + 0) (instead-provides old new o)

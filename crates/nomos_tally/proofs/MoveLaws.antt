@@ -4,12 +4,12 @@ use Rattle.nomos_ir.specs.Order.{count_of}
 use Rattle.nomos_slots.specs.Numbers.{numbers}
 use Rattle.nomos_tally.specs.Moving.{Moves}
 use Rattle.nomos_tally.specs.declared.tallies.Tallies.{Tallies}
-use Rattle.nomos_tally.specs.declared.tally.Doing.{Doing}
+use Rattle.nomos_tally.specs.declared.tally.NameUse.{NameUse}
 use Rattle.nomos_tally.proofs.TallyLemmas.{suspects-both}
 
 -- nothing is done, where as much is done less as more
-pub moves-still : (t : Tallies) (less more : Doing → List ℕ)
-    → ((d : Doing) (name : ℕ) → count_of name (less d) ≡ count_of name (more d)) → Moves t t less more
+pub moves-still : (t : Tallies) (less more : NameUse → List ℕ)
+    → ((d : NameUse) (name : ℕ) → count_of name (less d) ≡ count_of name (more d)) → Moves t t less more
 moves-still t less more same = record {
   order = refl;
   exact = λ yes. yes;
@@ -19,7 +19,7 @@ moves-still t less more same = record {
 }
 
 -- tallies that are exact no longer say nothing
-pub moves-lost : (before after : Tallies) (less more : Doing → List ℕ) → after.exact ≡ false
+pub moves-lost : (before after : Tallies) (less more : NameUse → List ℕ) → after.exact ≡ false
     → numbers after.names.now ≡ numbers before.names.now → after.names.marked ≡ before.names.marked
     → Moves before after less more
 moves-lost before after less more lost order marked = record {
@@ -31,9 +31,9 @@ moves-lost before after less more lost order marked = record {
 }
 
 -- one thing after another
-pub moves-both : (a b c : Tallies) (less_one more_one less_other more_other less more : Doing → List ℕ)
+pub moves-both : (a b c : Tallies) (less_one more_one less_other more_other less more : NameUse → List ℕ)
     → Moves a b less_one more_one → Moves b c less_other more_other
-    → ((d : Doing) (name : ℕ)
+    → ((d : NameUse) (name : ℕ)
     → count_of name (less d) + count_of name (more_one d) + count_of name (more_other d)
     ≡ count_of name (more d) + count_of name (less_one d) + count_of name (less_other d))
     → Moves a c less more
@@ -50,8 +50,8 @@ moves-both a b c less_one more_one less_other more_other less more one other bal
 }
 
 -- the same, said by other lists in which names stand as often
-pub moves-as : (a b : Tallies) (less more less_too more_too : Doing → List ℕ) → Moves a b less more
-    → ((d : Doing) (name : ℕ)
+pub moves-as : (a b : Tallies) (less more less_too more_too : NameUse → List ℕ) → Moves a b less more
+    → ((d : NameUse) (name : ℕ)
     → count_of name (less_too d) + count_of name (more d) ≡ count_of name (more_too d) + count_of name (less d))
     → Moves a b less_too more_too
 moves-as a b less more less_too more_too moves same = record {

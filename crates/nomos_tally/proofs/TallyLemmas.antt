@@ -10,12 +10,12 @@ use Rattle.nomos_slots.specs.declared.numbered.Slot.{Slot}
 use Rattle.nomos_slots.proofs.NumberLaws.{found-at, found-none, found-push, found-push_other, found-put_at, found-put_at_other}
 use Rattle.nomos_tally.specs.Suspecting.{IsIdle, KeepsSuspects, Suspicion}
 use Rattle.nomos_tally.specs.Tallying.{counted, counted_in, one_if, only, tallied}
-use Rattle.nomos_tally.specs.declared.tally.Doing.{Doing}
-use Rattle.nomos_tally.specs.declared.tally.Doing.TheVariants as doing
+use Rattle.nomos_tally.specs.declared.tally.NameUse.{NameUse}
+use Rattle.nomos_tally.specs.declared.tally.NameUse.TheVariants as doing
 use Rattle.nomos_tally.specs.declared.tally.Tally.{Tally}
 
 -- the name is counted once where both are the same
-one-counted : (a d : Doing) (name : ℕ) → count_of name (only a (name ∷ []) d) ≡ one_if a d
+one-counted : (a d : NameUse) (name : ℕ) → count_of name (only a (name ∷ []) d) ≡ one_if a d
 one-counted doing.Provides doing.Provides name = count-here name name [] refl
 one-counted doing.Uses doing.Uses name = count-here name name [] refl
 one-counted doing.Bases doing.Bases name = count-here name name [] refl
@@ -27,7 +27,7 @@ one-counted doing.Bases doing.Provides name = refl
 one-counted doing.Bases doing.Uses name = refl
 
 -- another name is not
-other-counted : (a d : Doing) (name n : ℕ) → name ≢ n → count_of n (only a (name ∷ []) d) ≡ 0
+other-counted : (a d : NameUse) (name n : ℕ) → name ≢ n → count_of n (only a (name ∷ []) d) ≡ 0
 other-counted doing.Provides doing.Provides name n other = count-elsewhere n name [] (ne_eqb name n other)
 other-counted doing.Uses doing.Uses name n other = count-elsewhere n name [] (ne_eqb name n other)
 other-counted doing.Bases doing.Bases name n other = count-elsewhere n name [] (ne_eqb name n other)
@@ -44,17 +44,17 @@ module _ (tallies : List (Slot Tally)) (ascending : IsAscending tallies) (place 
   changed = put_at tallies place (Some next)
 
   -- what is said of the name is what the tally says, before and afterwards
-  own-before : (d : Doing) → tallied tallies d name ≡ counted d t
+  own-before : (d : NameUse) → tallied tallies d name ≡ counted d t
   own-before d = ap (counted_in d) (found-at tallies place _ ascending at)
 
-  own-after : (d : Doing) → tallied changed d name ≡ counted d next
+  own-after : (d : NameUse) → tallied changed d name ≡ counted d next
   own-after d = ap (counted_in d) (found-put_at tallies place _ (Some next) ascending at)
 
-  other-after : (d : Doing) (n : ℕ) → name ≢ n → tallied changed d n ≡ tallied tallies d n
+  other-after : (d : NameUse) (n : ℕ) → name ≢ n → tallied changed d n ≡ tallied tallies d n
   other-after d n other = ap (counted_in d) (found-put_at_other tallies place n _ (Some next) at other)
 
   -- once more with the name, where the tally says so
-  pub more-counted : (a : Doing) → ((d : Doing) → counted d next ≡ counted d t + one_if a d) → (d : Doing) (n : ℕ)
+  pub more-counted : (a : NameUse) → ((d : NameUse) → counted d next ≡ counted d t + one_if a d) → (d : NameUse) (n : ℕ)
       → tallied changed d n ≡ tallied tallies d n + count_of n (only a (name ∷ []) d)
   more-counted a is d n =
       elim (cases_eq name n) [
@@ -65,7 +65,7 @@ module _ (tallies : List (Slot Tally)) (ascending : IsAscending tallies) (place 
       ]
 
   -- once less
-  pub less-counted : (a : Doing) → ((d : Doing) → counted d next + one_if a d ≡ counted d t) → (d : Doing) (n : ℕ)
+  pub less-counted : (a : NameUse) → ((d : NameUse) → counted d next + one_if a d ≡ counted d t) → (d : NameUse) (n : ℕ)
       → tallied changed d n + count_of n (only a (name ∷ []) d) ≡ tallied tallies d n
   less-counted a is d n =
       elim (cases_eq name n) [
@@ -79,7 +79,7 @@ module _ (tallies : List (Slot Tally)) (ascending : IsAscending tallies) (place 
   -- so
   pub less-suspects : (was is : Suspicion) → (is.lost ≡ false → was.lost ≡ false)
       → (is.lost ≡ false → (n : ℕ) → Contains was.names n → Contains is.names n)
-      → (is.lost ≡ false → ((d : Doing) → counted d next ≡ 0) → Contains is.names name)
+      → (is.lost ≡ false → ((d : NameUse) → counted d next ≡ 0) → Contains is.names name)
       → KeepsSuspects tallies changed was is
   less-suspects was is lost kept suspected known = (
     lost known,
@@ -94,7 +94,7 @@ module _ (tallies : List (Slot Tally)) (ascending : IsAscending tallies) (place 
   )
 
   -- where nothing is done with the name its tally may go
-  pub gone-counted : IsIdle tallies name → (d : Doing) (n : ℕ)
+  pub gone-counted : IsIdle tallies name → (d : NameUse) (n : ℕ)
       → tallied (put_at tallies place None) d n ≡ tallied tallies d n
   gone-counted idle d n =
       elim (cases_eq name n) [
@@ -106,7 +106,7 @@ module _ (tallies : List (Slot Tally)) (ascending : IsAscending tallies) (place 
 
 -- where nothing is done less with any name, and no suspects are lost, all stay suspects
 pub more-suspects : (before after : List (Slot Tally)) (was is : Suspicion)
-    → ((d : Doing) (n : ℕ) → tallied before d n ≤ tallied after d n)
+    → ((d : NameUse) (n : ℕ) → tallied before d n ≤ tallied after d n)
     → (is.lost ≡ false → was.lost ≡ false)
     → (is.lost ≡ false → (n : ℕ) → Contains was.names n → Contains is.names n) → KeepsSuspects before after was is
 more-suspects before after was is grows lost kept known =
@@ -130,7 +130,7 @@ below-other n (m ∷ numbers) below =
 
 -- a tally by which nothing is done may come above all others
 pub come-counted : (tallies : List (Slot Tally)) (name : ℕ) (t : Tally) → All (λ n. n < name) (numbers tallies)
-    → ((d : Doing) → counted d t ≡ 0) → (d : Doing) (n : ℕ)
+    → ((d : NameUse) → counted d t ≡ 0) → (d : NameUse) (n : ℕ)
     → tallied (tallies ++ (record { number = name; item = Some t }) ∷ []) d n ≡ tallied tallies d n
 come-counted tallies name t below none d n =
     elim (cases_eq name n) [

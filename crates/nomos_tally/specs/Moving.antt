@@ -4,11 +4,11 @@ use Rattle.nomos_slots.specs.Numbers.{numbers}
 use Rattle.nomos_tally.specs.Suspecting.{KeepsSuspects}
 use Rattle.nomos_tally.specs.Tallying.{Shifts}
 use Rattle.nomos_tally.specs.declared.tallies.Tallies.{Tallies}
-use Rattle.nomos_tally.specs.declared.tally.Doing.{Doing}
+use Rattle.nomos_tally.specs.declared.tally.NameUse.{NameUse}
 
 -- Tallies stand under the same names and say so much less and so much more than before, if they are still exact; and no
 -- suspect is forgotten.
-pub record Moves (before after : Tallies) (less more : Doing → List ℕ) : Type 0 where
+pub record Moves (before after : Tallies) (less more : NameUse → List ℕ) : Type 0 where
   pub order : numbers after.names.now ≡ numbers before.names.now
   pub exact : after.exact ≡ true → before.exact ≡ true
   pub counts : after.exact ≡ true → Shifts before.names.now after.names.now less more

@@ -2,7 +2,7 @@
 use Rattle.std.specs.Prelude.{◌≡◌, ◌++◌, ℕ, Bool, false, List, [], ◌∷◌, Contains}
 use Rattle.nomos_slots.specs.declared.numbered.Slot.{Slot}
 use Rattle.nomos_tally.specs.Tallying.{tallied}
-use Rattle.nomos_tally.specs.declared.tally.Doing.{Doing}
+use Rattle.nomos_tally.specs.declared.tally.NameUse.{NameUse}
 use Rattle.nomos_tally.specs.declared.tally.Tally.{Tally}
 
 -- suspects: names, and whether there may be some that are not among them
@@ -16,7 +16,7 @@ suspecting name s = record s { names = s.names ++ name ∷ [] }
 
 -- nothing is done with a name, as tallies say it
 abbrev pub IsIdle : List (Slot Tally) → ℕ → Type 0
-IsIdle tallies name = (d : Doing) → tallied tallies d name ≡ 0
+IsIdle tallies name = (d : NameUse) → tallied tallies d name ≡ 0
 
 -- the name is a suspect, if nothing is done with it
 abbrev pub IsSuspectIfIdle : List (Slot Tally) → Suspicion → ℕ → Type 0

@@ -6,41 +6,41 @@ use Rattle.nomos_machine.specs.declared.object.Object.{Object}
 use Rattle.nomos_machine.specs.declared.object.Process.{Process}
 use Rattle.nomos_slots.specs.Numbers.{found}
 use Rattle.nomos_slots.specs.declared.numbered.Slot.{Slot}
-use Rattle.nomos_tally.specs.declared.tally.Doing.{Doing}
-use Rattle.nomos_tally.specs.declared.tally.Doing.TheVariants as doing
+use Rattle.nomos_tally.specs.declared.tally.NameUse.{NameUse}
+use Rattle.nomos_tally.specs.declared.tally.NameUse.TheVariants as doing
 use Rattle.nomos_tally.specs.declared.tally.Tally.{Tally}
 
 -- how often a tally says that it is done
-abbrev pub counted : Doing → Tally → ℕ
+abbrev pub counted : NameUse → Tally → ℕ
 counted doing.Provides t = t.provided
 counted doing.Uses t = t.used
 counted doing.Bases t = t.based
 
 -- one where both are the same, and nothing otherwise
-abbrev pub one_if : Doing → Doing → ℕ
+abbrev pub one_if : NameUse → NameUse → ℕ
 one_if doing.Provides doing.Provides = 1
 one_if doing.Uses doing.Uses = 1
 one_if doing.Bases doing.Bases = 1
 one_if _ _ = 0
 
 -- the names with which an object does this
-abbrev pub names_of : Doing → Object → List ℕ
+abbrev pub names_of : NameUse → Object → List ℕ
 names_of doing.Provides o = provided o
 names_of doing.Uses o = used o
 names_of doing.Bases o = based o
 
 -- how often a tally that may be there says that it is done
-abbrev pub counted_in : Doing → Option Tally → ℕ
+abbrev pub counted_in : NameUse → Option Tally → ℕ
 counted_in d None = 0
 counted_in d (Some t) = counted d t
 
 -- how often it is done with a name, by tallies under names: no time, where the name has none
-abbrev pub tallied : List (Slot Tally) → Doing → ℕ → ℕ
+abbrev pub tallied : List (Slot Tally) → NameUse → ℕ → ℕ
 tallied tallies d name = counted_in d (found tallies name)
 
 -- Tallies are right: each is as often done with each name as they say. So no object mentions a name without a tally.
 abbrev pub AreRight : List (Slot Tally) → List Object → Type 0
-AreRight tallies objects = (d : Doing) (name : ℕ) → tallied tallies d name ≡ times (names_of d) objects name
+AreRight tallies objects = (d : NameUse) (name : ℕ) → tallied tallies d name ≡ times (names_of d) objects name
 
 -- the same, where it is said that they are
 abbrev pub AreRightIf : Bool → List (Slot Tally) → List Object → Type 0
@@ -52,21 +52,21 @@ IsTallyAt tallies name result =
     IfSome result (λ r. slice_get tallies r.0 ≡ Some (record { number = name; item = Some r.1 }))
 
 -- these names, where both are the same, and none otherwise
-abbrev pub only : Doing → List ℕ → Doing → List ℕ
+abbrev pub only : NameUse → List ℕ → NameUse → List ℕ
 only doing.Provides names doing.Provides = names
 only doing.Uses names doing.Uses = names
 only doing.Bases names doing.Bases = names
 only _ names _ = []
 
 -- what a process does with names by its channels
-abbrev pub channels_used : Process → Doing → List ℕ
+abbrev pub channels_used : Process → NameUse → List ℕ
 channels_used p d = only doing.Uses (map (λ e. e.1) p.channels) d
 
 -- no names, whatever is done
-abbrev pub nothing : Doing → List ℕ
+abbrev pub nothing : NameUse → List ℕ
 nothing d = []
 
 -- Tallies afterwards say so much less and so much more than before.
-abbrev pub Shifts : List (Slot Tally) → List (Slot Tally) → (Doing → List ℕ) → (Doing → List ℕ) → Type 0
-Shifts before after less more = (d : Doing) (name : ℕ)
+abbrev pub Shifts : List (Slot Tally) → List (Slot Tally) → (NameUse → List ℕ) → (NameUse → List ℕ) → Type 0
+Shifts before after less more = (d : NameUse) (name : ℕ)
     → tallied after d name + count_of name (less d) ≡ tallied before d name + count_of name (more d)

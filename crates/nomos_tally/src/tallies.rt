@@ -6,10 +6,10 @@ ghost use Rattle.nomos_slots.specs.Numbers.{found, IsAscending, numbers};
 ghost use Rattle.nomos_tally.specs.Moving.{Moves};
 ghost use Rattle.nomos_tally.specs.Suspecting.{IsIdle, KeepsSuspects};
 ghost use Rattle.nomos_tally.specs.Tallying.{IsTallyAt, counted, nothing, only, tallied};
-ghost use Rattle.nomos_tally.specs.declared.tally.Doing.{Doing as Does};
+ghost use Rattle.nomos_tally.specs.declared.tally.NameUse.{NameUse as Does};
 
 use crate::suspects::Suspects;
-use crate::tally::{Doing, Hint, Tally};
+use crate::tally::{Hint, NameUse, Tally};
 use nomos_slots::numbered::Numbered;
 use std::alloc::{AllocError, Global};
 
@@ -47,7 +47,7 @@ impl Tallies {
     }
 
     /// It is done once more with a name, by this one. It takes no room.
-    pub fn more(&mut self, doing: Doing, name: u32, by: Hint)
+    pub fn more(&mut self, doing: NameUse, name: u32, by: Hint)
         requires { IsAscending self.old.names.now }
         ensures { Moves self.old self.new nothing (only doing (name ∷ [])) }
     {
@@ -63,7 +63,7 @@ impl Tallies {
     }
 
     /// It is done once less with a name. It takes no room.
-    pub fn less(&mut self, doing: Doing, name: u32)
+    pub fn less(&mut self, doing: NameUse, name: u32)
         requires { IsAscending self.old.names.now }
         ensures { Moves self.old self.new (only doing (name ∷ [])) nothing }
     {
@@ -80,7 +80,7 @@ impl Tallies {
     }
 
     // It is done once less with a name that may be there.
-    fn less_if(&mut self, doing: Doing, name: Option<u32>)
+    fn less_if(&mut self, doing: NameUse, name: Option<u32>)
         requires { IsAscending self.old.names.now }
         ensures { Moves self.old self.new (only doing (option_to_list name)) nothing }
     {
@@ -90,7 +90,7 @@ impl Tallies {
     }
 
     // It is done once more with a name that may be there.
-    fn more_if(&mut self, doing: Doing, name: Option<u32>, by: Hint)
+    fn more_if(&mut self, doing: NameUse, name: Option<u32>, by: Hint)
         requires { IsAscending self.old.names.now }
         ensures { Moves self.old self.new nothing (only doing (option_to_list name)) }
     {
@@ -101,7 +101,7 @@ impl Tallies {
 
     /// It is done with the other name, by this one, and not with the one name. Where both are one it costs nothing. It
     /// takes no room.
-    pub fn exchange(&mut self, doing: Doing, before: Option<u32>, after: Option<u32>, by: Hint)
+    pub fn exchange(&mut self, doing: NameUse, before: Option<u32>, after: Option<u32>, by: Hint)
         requires { IsAscending self.old.names.now }
         ensures { Moves self.old self.new (only doing (option_to_list before)) (only doing (option_to_list after)) }
     {

@@ -1,11 +1,11 @@
 //! How often objects do what with one name.
 ghost use Rattle.std.specs.Prelude.{◌≡◌, ◌+◌, ◌↔◌, ℕ, IfSome, IsTrue};
 ghost use Rattle.nomos_tally.specs.Tallying.{counted, one_if};
-ghost use Rattle.nomos_tally.specs.declared.tally.Doing.{Doing as Does};
+ghost use Rattle.nomos_tally.specs.declared.tally.NameUse.{NameUse as Does};
 
 /// What an object does with a name.
 #[derive(Clone, Copy, Debug)]
-pub enum Doing {
+pub enum NameUse {
     /// It provides the name.
     Provides,
     /// It uses it.
@@ -53,13 +53,13 @@ impl Tally {
     }
 
     /// How often it is done.
-    pub fn count(&self, doing: Doing) -> u32
+    pub fn count(&self, doing: NameUse) -> u32
         ensures { result ≡ counted doing self.now }
     {
         match doing {
-            Doing::Provides => self.provided,
-            Doing::Uses => self.used,
-            Doing::Bases => self.based,
+            NameUse::Provides => self.provided,
+            NameUse::Uses => self.used,
+            NameUse::Bases => self.based,
         }
     }
 
@@ -71,11 +71,11 @@ impl Tally {
     }
 
     /// It is done once more, by this one; nothing where that is too often for a number of 32 bits.
-    pub fn more(self, doing: Doing, by: Hint) -> Option<Tally>
+    pub fn more(self, doing: NameUse, by: Hint) -> Option<Tally>
         ensures { IfSome result (λ t. (d : Does) → counted d t ≡ counted d self + one_if doing d) }
     {
         match doing {
-            Doing::Provides => {
+            NameUse::Provides => {
                 let provided = self.provided.checked_add(1)?;
                 Some(Tally {
                     provided,
@@ -83,7 +83,7 @@ impl Tally {
                     ..self
                 })
             }
-            Doing::Uses => {
+            NameUse::Uses => {
                 let used = self.used.checked_add(1)?;
                 Some(Tally {
                     used,
@@ -91,7 +91,7 @@ impl Tally {
                     ..self
                 })
             }
-            Doing::Bases => {
+            NameUse::Bases => {
                 let based = self.based.checked_add(1)?;
                 Some(Tally {
                     based,
@@ -103,19 +103,19 @@ impl Tally {
     }
 
     /// It is done once less; nothing where it is not done at all.
-    pub fn less(self, doing: Doing) -> Option<Tally>
+    pub fn less(self, doing: NameUse) -> Option<Tally>
         ensures { IfSome result (λ t. (d : Does) → counted d t + one_if doing d ≡ counted d self) }
     {
         match doing {
-            Doing::Provides => {
+            NameUse::Provides => {
                 let provided = self.provided.checked_sub(1)?;
                 Some(Tally { provided, ..self })
             }
-            Doing::Uses => {
+            NameUse::Uses => {
                 let used = self.used.checked_sub(1)?;
                 Some(Tally { used, ..self })
             }
-            Doing::Bases => {
+            NameUse::Bases => {
                 let based = self.based.checked_sub(1)?;
                 Some(Tally { based, ..self })
             }

@@ -1,6 +1,6 @@
 //! Why there is no tale, in words and as a status.
 
-use nomos_accept::refusal::AcceptError;
+use nomos_accept::why::AcceptError;
 use nomos_base::ReadError;
 use nomos_script::parsing::ScriptError;
 use nomos_tale::untold::Untold;

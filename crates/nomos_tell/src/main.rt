@@ -7,7 +7,7 @@ mod words;
 
 use crate::failure::Failure;
 use crate::telling::{Texts, tale_of};
-use crate::words::{Call, call_of};
+use crate::words::{TellCall, call_of};
 use nomos_base::write_all;
 use nomos_files::{FileSource, OutputSink};
 use std::alloc::{AllocError, AllocGlobal};

@@ -3,7 +3,7 @@ ghost use Rattle.std.specs.Prelude.{IfSome};
 ghost use Rattle.nomos_legal.specs.Legal.{IsLimit};
 
 use crate::failure::{Failure, Text, of_reading};
-use crate::words::{Call, OrderWord};
+use crate::words::{OrderWord, TellCall};
 use nomos_accept::accepting::accept;
 use nomos_base::{Source, read_all};
 use nomos_ir::limits::TEXT_LIMIT;
@@ -37,7 +37,7 @@ fn bytes_of<S: Source>(alloc: Global, source: &mut S, text: Text) -> Result<Vec<
 /// The tale that a call asks for. The journal is read only where it is asked for.
 pub(crate) fn tale_of<S: Source>(
     alloc: Global,
-    call: &Call<'_>,
+    call: &TellCall<'_>,
     texts: &mut Texts<S>,
 ) -> Result<Vec<u8>, Failure>
     requires { IfSome call.now.steps IsLimit }

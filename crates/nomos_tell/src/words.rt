@@ -18,14 +18,14 @@ pub(crate) enum OrderWord<'a> {
 /// What is asked for: the tale of the script in the second file on the contract in the first, in this order, and the
 /// most firings of a batch, where that is said, from 1 to 10,000,000.
 #[derive(Clone, Copy, Debug)]
-pub(crate) struct Call<'a> {
+pub(crate) struct TellCall<'a> {
     pub(crate) contract: &'a str,
     pub(crate) script: &'a str,
     pub(crate) order: OrderWord<'a>,
     pub(crate) steps: Option<u32>,
 }
 
-impl<'a> Call<'a> {
+impl<'a> TellCall<'a> {
     /// The file of the journal, if one is read.
     pub(crate) fn journal(&self) -> Option<&'a str> {
         match self.order {
@@ -107,7 +107,7 @@ fn options_of(words: &[String]) -> Option<Options<'_>>
 }
 
 /// What the words ask for, which stand behind the program's own name, or nothing where they have another form.
-pub(crate) fn call_of(words: &[String]) -> Option<Call<'_>>
+pub(crate) fn call_of(words: &[String]) -> Option<TellCall<'_>>
     ensures { IfSome result (λ call. IfSome call.steps IsLimit) }
 {
     let [contract, script, options @ ..] = words else {
@@ -117,7 +117,7 @@ pub(crate) fn call_of(words: &[String]) -> Option<Call<'_>>
         return None;
     }
     let options = options_of(options)?;
-    Some(Call {
+    Some(TellCall {
         contract,
         script,
         order: options.order.unwrap_or(OrderWord::First),

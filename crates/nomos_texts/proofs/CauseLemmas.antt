@@ -11,7 +11,7 @@ use Rattle.nomos_legal.specs.declared.refusal.Refusal.TheVariants as refusal
 use Rattle.nomos_texts.specs.declared.cause.Shortage.{Shortage}
 use Rattle.nomos_texts.specs.Cause.{cause_text, IsCause}
 use Rattle.nomos_texts.specs.Number.{ReadsGas}
-use Rattle.nomos_texts.specs.Reading.{ReadsAs}
+use Rattle.nomos_texts.specs.ReadAs.{ReadsAs}
 use Rattle.nomos_texts.specs.Splitting.{Lacks, ComesApart}
 use Rattle.nomos_texts.specs.mirror.Shortages.{IsShortage, shortage_text}
 use Rattle.nomos_texts.proofs.GasLemmas.{Lacks-gas_text}

@@ -8,7 +8,7 @@ use Rattle.nomos_legal.specs.declared.refusal.Refusal.{Refusal}
 use Rattle.nomos_texts.specs.Cause.{fault_text, cause_text, IsCause}
 use Rattle.nomos_texts.specs.End.{end_text, IsEnd}
 use Rattle.nomos_texts.specs.Number.{ReadsBits}
-use Rattle.nomos_texts.specs.Reading.{ReadsAs}
+use Rattle.nomos_texts.specs.ReadAs.{ReadsAs}
 use Rattle.nomos_texts.specs.Splitting.{Lacks, ComesApart}
 use Rattle.nomos_texts.specs.mirror.PlainEnds.{IsPlainEnd}
 use Rattle.nomos_texts.proofs.ReadingLaws.{ReadsAs-none}

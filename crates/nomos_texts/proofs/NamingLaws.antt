@@ -4,7 +4,7 @@ use Rattle.std.specs.Prelude.{find}
 use Rattle.std.specs.Str.{bytes_eq}
 use Rattle.std.proofs.lemmas.Bool.{cases_Bool}
 use Rattle.std.proofs.lemmas.Slice.Eq.{bytes_eq-Decides}
-use Rattle.nomos_texts.specs.Reading.{ReadsAs}
+use Rattle.nomos_texts.specs.ReadAs.{ReadsAs}
 
 -- what is found in a table is written so
 named-found : {A : Type 0} (written : A → List ℕ) (text : List ℕ) (table : List A)

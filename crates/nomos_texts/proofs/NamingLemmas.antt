@@ -5,8 +5,8 @@ use Rattle.std.specs.Str.{bytes_eq}
 use Rattle.nomos_ir.specs.declared.fault.Fault.{Fault}
 use Rattle.nomos_ir.specs.declared.fault.Fault.TheVariants as fault
 use Rattle.nomos_texts.specs.Cause.{fault_text}
-use Rattle.nomos_texts.specs.Reading.{ReadsAs}
-use Rattle.nomos_texts.specs.mirror.Naming.{all_faults, fault_named}
+use Rattle.nomos_texts.specs.ReadAs.{ReadsAs}
+use Rattle.nomos_texts.specs.mirror.FaultNaming.{all_faults, fault_named}
 use Rattle.nomos_texts.proofs.NamingLaws.{ReadsAs-named}
 
 -- a fault is found by its name

@@ -13,7 +13,7 @@ use Rattle.nomos_legal.specs.declared.refusal.Refusal.TheVariants as refusal
 use Rattle.nomos_texts.specs.declared.cause.Shortage.{Shortage}
 use Rattle.nomos_texts.specs.Cause.{cause_text, fault_text, IsCause}
 use Rattle.nomos_texts.specs.End.{end_text, IsEnd}
-use Rattle.nomos_texts.specs.Reading.{ReadsAs}
+use Rattle.nomos_texts.specs.ReadAs.{ReadsAs}
 use Rattle.nomos_texts.specs.mirror.Shortages.{IsShortage, shortage_text}
 use Rattle.nomos_texts.proofs.CauseLemmas.{Lacks-name, shortage_both, no_gas_all, three_parts}
 use Rattle.nomos_texts.proofs.EndLemmas.{aborted_both, steps_some, refused_both}

@@ -1,6 +1,6 @@
 -- When a text is read as nothing, and as what it is.
 use Rattle.std.proofs.Common.{◌≡◌, ℕ, List, None}
-use Rattle.nomos_texts.specs.Reading.{ReadsAs}
+use Rattle.nomos_texts.specs.ReadAs.{ReadsAs}
 
 -- nothing of the kind is written as the text
 pub ReadsAs-none : {A : Type 0} {IsOne : A → Type 0} {written : A → List ℕ} (text : List ℕ)

@@ -1,7 +1,7 @@
 pub mod Cause
 pub mod End
 pub mod Number
-pub mod Reading
+pub mod ReadAs
 pub mod Splitting
-pub mod Value
+pub mod ValueTexts
 pub mod mirror

@@ -1,7 +1,7 @@
 -- The numbers and the amounts of gas that are read.
 use Rattle.std.specs.Prelude.{◌<◌, ◌≤◌, ◌^◌, ℕ, List, Option, decimal}
 use Rattle.nomos_base.specs.Gas.{gas_text}
-use Rattle.nomos_texts.specs.Reading.{ReadsAs}
+use Rattle.nomos_texts.specs.ReadAs.{ReadsAs}
 
 -- a text is read as a number up to this one: in decimal, without leading zeros
 abbrev pub ReadsNumber : ℕ → List ℕ → Option ℕ → Type 0

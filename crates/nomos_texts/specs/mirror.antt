@@ -1,5 +1,5 @@
 -- Mirrors of the code, on which no promise stands.
-pub mod Naming
+pub mod FaultNaming
 pub mod Numeral
 pub mod PlainEnds
 pub mod Shortages

@@ -4,7 +4,7 @@ ghost use Rattle.std.specs.Prelude.{◌≡◌, ◌++◌, codes, OnOk, IfOk};
 ghost use Rattle.nomos_base.specs.Gas.{gas_text};
 ghost use Rattle.nomos_script.specs.ScriptNames.{IsScriptName};
 ghost use Rattle.nomos_texts.specs.Cause.{cause_text, IsCause};
-ghost use Rattle.nomos_texts.specs.Reading.{ReadsAs};
+ghost use Rattle.nomos_texts.specs.ReadAs.{ReadsAs};
 ghost use Rattle.nomos_texts.specs.mirror.Shortages.{IsShortage, shortage_text};
 
 use crate::number::read_gas;

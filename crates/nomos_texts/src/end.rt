@@ -3,11 +3,11 @@
 ghost use Rattle.std.specs.Prelude.{◌≡◌, ◌++◌, ℕ, codes, decimal, OnOk, IfOk};
 ghost use Rattle.nomos_texts.specs.Cause.{cause_text, fault_text};
 ghost use Rattle.nomos_texts.specs.End.{end_text, IsEnd};
-ghost use Rattle.nomos_texts.specs.Reading.{ReadsAs};
+ghost use Rattle.nomos_texts.specs.ReadAs.{ReadsAs};
 ghost use Rattle.nomos_texts.specs.mirror.PlainEnds.{IsPlainEnd};
 
 use crate::cause::{push_cause, read_cause};
-use crate::fault::{push_fault, read_fault};
+use crate::fault_texts::{push_fault, read_fault};
 use crate::number::{push_number, read_u32};
 use crate::splitting::{behind, is_word, split_once};
 use nomos_ir::fault::Fault;

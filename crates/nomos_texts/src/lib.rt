@@ -3,7 +3,7 @@
 
 pub mod cause;
 pub mod end;
-pub mod fault;
+pub mod fault_texts;
 pub mod number;
 pub mod splitting;
-pub mod value;
+pub mod value_texts;

@@ -4,9 +4,9 @@ use Rattle.std.specs.Prelude.{codes}
 use Rattle.nomos_accept.specs.AcceptedText.{PivotRunEndsWith}
 use Rattle.nomos_accept.specs.TypedText.{IsTypedAs}
 use Rattle.nomos_due.proofs.ReplayLaws.{legal-not_refused}
-use Rattle.nomos_due.specs.Lines.{read_fault_line}
+use Rattle.nomos_due.specs.DueLines.{read_fault_line}
 use Rattle.nomos_due.specs.Outside.{HaveRisen}
-use Rattle.nomos_due.specs.Runs.{HasRun, usual_orders}
+use Rattle.nomos_due.specs.RunsDue.{HasRun, usual_orders}
 use Rattle.nomos_ir.specs.declared.lists.ProgramLists.{ProgramLists}
 use Rattle.nomos_least.specs.LeastBounds.{LeastRunEndsWith}
 use Rattle.nomos_journal.specs.JournalText.{IsTextOf}

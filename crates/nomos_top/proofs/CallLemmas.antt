@@ -7,8 +7,8 @@ use Rattle.nomos_top.specs.Seen.{Call, IsDone}
 use Rattle.nomos_top.specs.Outcome.{Inputs, Outcome}
 use Rattle.nomos_top.specs.Tasks.{Keeps, ReadsSnapshot, Waits}
 use Rattle.nomos_top.specs.Turns.{MayKeep, MayWait, WantsSnapshot}
-use Rattle.nomos_top.specs.declared.due.CallDue.{CallDue}
-use Rattle.nomos_top.specs.declared.due.DoneSoFar.{DoneSoFar}
+use Rattle.nomos_top.specs.declared.call_due.CallDue.{CallDue}
+use Rattle.nomos_top.specs.declared.call_due.DoneSoFar.{DoneSoFar}
 use Rattle.nomos_top.specs.mirror.Judging.{EndsDue, IsDueOn, Sources, inputs_on, outcome_of}
 use Rattle.nomos_top.proofs.EndLaws.{further-not_seven, keeps-any_or_not}
 use Rattle.nomos_top.proofs.Views.{WordsView, WrittenView, words-view, written-view}

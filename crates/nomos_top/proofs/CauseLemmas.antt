@@ -6,7 +6,7 @@ use Rattle.nomos_accept.proofs.NeverLaws.{cause-refutes}
 use Rattle.nomos_accept.proofs.RowListLaws.{ends-once}
 use Rattle.nomos_accept.specs.AcceptedText.{IsAcceptedAs, IsCauseOf, PivotRunEndsWith, found_amounts}
 use Rattle.nomos_accept.specs.TypedText.{IsReadAs}
-use Rattle.nomos_accept.specs.declared.refusal.Why.{Why}
+use Rattle.nomos_accept.specs.declared.why.Why.{Why}
 use Rattle.nomos_forms.specs.declared.found.Found.{Found}
 use Rattle.nomos_forms.specs.declared.verdict.Verdict.{Verdict}
 use Rattle.nomos_ir.specs.declared.lists.ProgramLists.{ProgramLists}

@@ -2,12 +2,12 @@
 use Rattle.std.proofs.Common.{◌≡◌, ℕ, ◌<◌, List, length, Option, Some, None, Result, Ok, Err, inl, inr, refl, sym, ◌∙◌, subst, arith}
 use Rattle.std.specs.Prelude.{IfOk, IfErr}
 use Rattle.nomos_accept.specs.AcceptedText.{IsAcceptedAs, IsRefused}
-use Rattle.nomos_accept.specs.declared.refusal.Why.TheVariants as why
+use Rattle.nomos_accept.specs.declared.why.Why.TheVariants as why
 use Rattle.nomos_due.proofs.SourceLemmas.{some_text}
 use Rattle.nomos_due.specs.Benches.{IsBenchDue, IsBenchPart, load_contract}
 use Rattle.nomos_due.specs.Outside.{HasText, HaveRisen, SourceState}
 use Rattle.nomos_due.specs.Replays.{no_journal}
-use Rattle.nomos_due.specs.Runs.{IsRunDue, IsRunPart, usual_orders}
+use Rattle.nomos_due.specs.RunsDue.{IsRunDue, IsRunPart, usual_orders}
 use Rattle.nomos_due.specs.Sources.{IsPoolDueFor, IsPoolPartFor, IsReplayDueFor, IsResumeDueFor, IsResumePartFor, IsRunDueFor, IsRunPartFor, IsSaveDueFor, IsTalkDueFor, kept_text}
 use Rattle.nomos_due.specs.declared.due.Due.{Due}
 use Rattle.nomos_due.specs.declared.pools.PoolDue.{PoolDue}
@@ -27,8 +27,8 @@ use Rattle.nomos_top.specs.Outcome.{Outcome, IsTaskDue, bare, given}
 use Rattle.nomos_top.specs.Refusal.{refusal, unsolved_line}
 use Rattle.nomos_top.specs.TaskRuns.{HasStopped, HasStoppedFor, bench_orders, limit_of, run_orders}
 use Rattle.nomos_top.specs.Tasks.{AskNothing, ReadsContract, contract_of}
-use Rattle.nomos_top.specs.declared.due.CallDue.{CallDue}
-use Rattle.nomos_top.specs.declared.due.DoneSoFar.{DoneSoFar}
+use Rattle.nomos_top.specs.declared.call_due.CallDue.{CallDue}
+use Rattle.nomos_top.specs.declared.call_due.DoneSoFar.{DoneSoFar}
 use Rattle.nomos_top.specs.declared.judging.Unaccepted.{Unaccepted}
 use Rattle.nomos_top.specs.declared.judging.Unaccepted.TheVariants as unaccepted
 use Rattle.nomos_top.specs.mirror.Judging.{IsAgainst, Judges, JudgesText, IsDueOn, IsDueOut, IsNothing, IsPartOn, IsTaskDueOn, IsTaskPartOn, EndsDue, EndsPart, IsPooledBehind, IsPooledBehindPart, Sources, behind_of, given_of, inputs_on, outcome_of, pooled_behind_of, taken_of}

@@ -5,13 +5,13 @@ use Rattle.nomos_legal.specs.Ledger.{LedgerState}
 use Rattle.nomos_legal.specs.StandsFor.{NamesBalances, StandsNamed}
 use Rattle.nomos_snapshot.proofs.LeadLaws.{head-lines, onward, reads-lines}
 use Rattle.nomos_snapshot.proofs.LoadingLaws.{loads-loaded}
-use Rattle.nomos_snapshot.specs.Gathering as gathering
-use Rattle.nomos_snapshot.specs.Gathering.{Gathered, Goes, Stand, at_head, behind, ledger_of, no_ledger}
-use Rattle.nomos_snapshot.specs.Leading as leading
-use Rattle.nomos_snapshot.specs.Leading.{LeadTo}
+use Rattle.nomos_snapshot.specs.GatheredLines as gathering
+use Rattle.nomos_snapshot.specs.GatheredLines.{Gathered, Goes, Stand, at_head, behind, ledger_of, no_ledger}
+use Rattle.nomos_snapshot.specs.LineOrder as leading
+use Rattle.nomos_snapshot.specs.LineOrder.{LeadTo}
 use Rattle.nomos_snapshot.specs.Loading as loading
 use Rattle.nomos_snapshot.specs.Loading.{Admits, Loads}
-use Rattle.nomos_snapshot.specs.Reading.{Reads}
+use Rattle.nomos_snapshot.specs.SnapshotReading.{Reads}
 use Rattle.nomos_snapshot.specs.declared.error.LoadError.{LoadError}
 use Rattle.nomos_snapshot.specs.declared.line.SnapshotLine.{SnapshotLine}
 use Rattle.nomos_top.specs.Headline.{BeginsBy}

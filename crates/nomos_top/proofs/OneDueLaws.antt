@@ -2,7 +2,7 @@
 -- said.
 use Rattle.std.proofs.Common.{◌≡◌, ◌∙◌, ℕ, List, Bool, Option, Some, None, Result, Ok, Err, refl, sym, subst, arith}
 use Rattle.nomos_due.specs.Outside.{Input}
-use Rattle.nomos_due.specs.Runs.{HasRunFrom, usual_orders}
+use Rattle.nomos_due.specs.RunsDue.{HasRunFrom, usual_orders}
 use Rattle.nomos_due.specs.TalkDue as talking
 use Rattle.nomos_due.specs.TalkDue.{IsNoTalk}
 use Rattle.nomos_legal.proofs.OneJournalLaws.{follows-one_journal}

@@ -5,8 +5,8 @@ use Rattle.nomos_accept.proofs.CauseLaws.{one-cause}
 use Rattle.nomos_accept.proofs.RowListLaws.{ends-once}
 use Rattle.nomos_accept.specs.AcceptedText.{IsCauseOf, IsProgramWith, PivotRunEndsWith}
 use Rattle.nomos_accept.specs.Causes.{step_of, offset_of, limit_of, form_of}
-use Rattle.nomos_accept.specs.declared.refusal.Why.{Why}
-use Rattle.nomos_accept.specs.declared.refusal.Why.TheVariants as why
+use Rattle.nomos_accept.specs.declared.why.Why.{Why}
+use Rattle.nomos_accept.specs.declared.why.Why.TheVariants as why
 use Rattle.nomos_forms.specs.declared.verdict.Verdict.{Verdict}
 use Rattle.nomos_grammar.specs.declared.offence.Which.{Which}
 use Rattle.nomos_ir.specs.declared.code_form.CodeForm.{CodeForm}

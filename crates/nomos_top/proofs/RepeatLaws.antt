@@ -3,10 +3,10 @@ use Rattle.std.proofs.Common.{◌≡◌, ◌∙◌, ◌⊎◌, inl, inr, ℕ, Li
 use Rattle.std.specs.Prelude.{codes, decimal}
 use Rattle.nomos_accept.proofs.RowListLaws.{ends-once}
 use Rattle.nomos_due.proofs.ReplayLaws.{legal-not_refused, legal-one}
-use Rattle.nomos_due.specs.Lines as lines
-use Rattle.nomos_due.specs.Lines.{IsNoScript, script_refusal}
+use Rattle.nomos_due.specs.DueLines as lines
+use Rattle.nomos_due.specs.DueLines.{IsNoScript, script_refusal}
 use Rattle.nomos_due.specs.Outside.{Input}
-use Rattle.nomos_due.specs.Runs.{HasRun, usual_orders}
+use Rattle.nomos_due.specs.RunsDue.{HasRun, usual_orders}
 use Rattle.nomos_due.specs.SnapshotLines.{unloaded_line, unsaved_line}
 use Rattle.nomos_due.specs.TalkDue as talking
 use Rattle.nomos_due.specs.TalkDue.{IsNoTalk, talk_status}

@@ -9,7 +9,7 @@ use Rattle.nomos_machine.specs.OutsideTalk.{TalksTo}
 use Rattle.nomos_machine.specs.State.{State, gas_of}
 use Rattle.nomos_monitor.proofs.KeepingLaws.{goes-well}
 use Rattle.nomos_monitor.proofs.OpenedLaws.{named-talk}
-use Rattle.nomos_monitor.specs.Opening.{OpensNamed}
+use Rattle.nomos_monitor.specs.TalkOpening.{OpensNamed}
 use Rattle.nomos_report.specs.Reported.{report_of}
 use Rattle.nomos_top.proofs.AcceptedLaws.{task-view}
 use Rattle.nomos_top.proofs.EndLaws.{whole-done}

@@ -2,12 +2,12 @@
 use Rattle.std.proofs.Common.{◌≡◌, ◌∙◌, ◌⊎◌, inl, inr, ℕ, List, [], ◌++◌, take, Bool, Option, Some, None, Ok, Err, ap, refl, sym, subst}
 use Rattle.std.specs.Prelude.{codes, is_some}
 use Rattle.nomos_accept.specs.AcceptedText.{IsRefused}
-use Rattle.nomos_accept.specs.declared.refusal.Why.{Why}
+use Rattle.nomos_accept.specs.declared.why.Why.{Why}
 use Rattle.nomos_base.specs.Sink.{with_end, AppendsSome}
 use Rattle.nomos_due.specs.Benches as benches
 use Rattle.nomos_due.specs.Benches.{IsBenchDue, IsBenchPart}
-use Rattle.nomos_due.specs.Lines as lines
-use Rattle.nomos_due.specs.Lines.{IsNoScript, read_fault_line}
+use Rattle.nomos_due.specs.DueLines as lines
+use Rattle.nomos_due.specs.DueLines.{IsNoScript, read_fault_line}
 use Rattle.nomos_due.specs.Outside.{HaveRisen, SinkState}
 use Rattle.nomos_due.specs.Pools as pools
 use Rattle.nomos_due.specs.Pools.{IsPoolDue, IsPoolPart, pool_refusal}
@@ -15,8 +15,8 @@ use Rattle.nomos_due.specs.Replays as replays
 use Rattle.nomos_due.specs.Replays.{IsJournalDue, IsReplayDue}
 use Rattle.nomos_due.specs.Resumes as resumes
 use Rattle.nomos_due.specs.Resumes.{IsNoLedger, IsResumeDue, IsResumePart}
-use Rattle.nomos_due.specs.Runs as runs
-use Rattle.nomos_due.specs.Runs.{HasRun, IsRunDue, IsRunPart, usual_orders}
+use Rattle.nomos_due.specs.RunsDue as runs
+use Rattle.nomos_due.specs.RunsDue.{HasRun, IsRunDue, IsRunPart, usual_orders}
 use Rattle.nomos_due.specs.Saves as saving
 use Rattle.nomos_due.specs.Saves.{IsSaveDue}
 use Rattle.nomos_due.specs.SnapshotLines.{unloaded_line, unsaved_line}

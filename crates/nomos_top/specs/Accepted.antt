@@ -1,6 +1,6 @@
 -- What is accepted is typed.
 use Rattle.std.specs.Prelude.{◌≡◌, ◌≢◌, ◌⊎◌, ℕ, codes}
-use Rattle.nomos_due.specs.Lines.{read_fault_line}
+use Rattle.nomos_due.specs.DueLines.{read_fault_line}
 use Rattle.nomos_due.specs.Outside.{HaveRisen}
 use Rattle.nomos_top.specs.Seen.{Call, Texts, HasWritten, Gives}
 use Rattle.nomos_top.specs.TaskRuns.{IsGivenFor}

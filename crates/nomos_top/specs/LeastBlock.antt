@@ -5,7 +5,7 @@ use Rattle.nomos_base.specs.Gas.{gas_text}
 use Rattle.nomos_least.specs.declared.least.LeastBounds.{LeastBounds}
 use Rattle.nomos_simplex.specs.declared.solved.Proof.{Proof}
 use Rattle.nomos_report.specs.Block.{accepted_block}
-use Rattle.nomos_report.specs.Lines.{line}
+use Rattle.nomos_report.specs.ReportLines.{line}
 use Rattle.nomos_top.specs.Refusal.{weight_line}
 
 -- `least G`: what the transactions declare in all

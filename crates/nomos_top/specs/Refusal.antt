@@ -2,8 +2,8 @@
 use Rattle.std.specs.Prelude.{ℕ, List, [], ◌++◌, codes, decimal}
 use Rattle.std.specs.Fmt.{signed_decimal}
 use Rattle.std.specs.List.{flat_map}
-use Rattle.nomos_accept.specs.declared.refusal.Why.{Why}
-use Rattle.nomos_accept.specs.declared.refusal.Why.TheVariants as why
+use Rattle.nomos_accept.specs.declared.why.Why.{Why}
+use Rattle.nomos_accept.specs.declared.why.Why.TheVariants as why
 use Rattle.nomos_forms.specs.declared.row.Row.{Row}
 use Rattle.nomos_forms.specs.declared.verdict.Of.{Of}
 use Rattle.nomos_forms.specs.declared.verdict.Of.TheVariants as of
@@ -14,7 +14,7 @@ use Rattle.nomos_grammar.specs.declared.offence.Which.TheVariants as which
 use Rattle.nomos_ir.specs.CodeForm.{form_name}
 use Rattle.nomos_simplex.specs.declared.solved.Stop.{Stop}
 use Rattle.nomos_simplex.specs.declared.solved.Stop.TheVariants as stop
-use Rattle.nomos_report.specs.Lines.{line}
+use Rattle.nomos_report.specs.ReportLines.{line}
 
 -- a limit
 abbrev pub which_text : Which → List ℕ

@@ -4,11 +4,11 @@ use Rattle.std.specs.Prelude.{◌≡◌, ◌⊎◌, ℕ, List, Some, Result, Err
 use Rattle.nomos_accept.specs.AcceptedText.{IsAcceptedAs, IsCauseOf, IsRefused, PivotRunEndsWith}
 use Rattle.nomos_accept.specs.TypedText.{IsReadAs, IsNeverTypedText}
 use Rattle.nomos_accept.specs.Causes.{SameCause}
-use Rattle.nomos_accept.specs.declared.refusal.Why.{Why}
-use Rattle.nomos_due.specs.Lines.{IsNoScript}
+use Rattle.nomos_accept.specs.declared.why.Why.{Why}
+use Rattle.nomos_due.specs.DueLines.{IsNoScript}
 use Rattle.nomos_due.specs.Outside.{input_of}
 use Rattle.nomos_due.specs.Pools.{pool_refusal}
-use Rattle.nomos_due.specs.Runs.{HasRun, usual_orders}
+use Rattle.nomos_due.specs.RunsDue.{HasRun, usual_orders}
 use Rattle.nomos_due.specs.SnapshotLines.{unloaded_line, unsaved_line}
 use Rattle.nomos_due.specs.TalkDue.{IsNoTalk}
 use Rattle.nomos_ir.specs.Amounts.{star_count}

@@ -2,7 +2,7 @@
 use Rattle.std.specs.Prelude.{◌≡◌, ◌≢◌, ◌⊎◌, ℕ, List, Option, Some, None, codes}
 use Rattle.nomos_base.specs.Sink.{AppendsSome}
 use Rattle.nomos_due.specs.Benches.{figures_of}
-use Rattle.nomos_due.specs.Lines.{read_fault_line}
+use Rattle.nomos_due.specs.DueLines.{read_fault_line}
 use Rattle.nomos_due.specs.Outside.{HaveRisen}
 use Rattle.nomos_least.specs.LeastBounds.{IsLeastAs}
 use Rattle.nomos_least.specs.declared.least.LeastBounds.{LeastBounds}

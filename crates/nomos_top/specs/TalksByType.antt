@@ -6,7 +6,7 @@ use Rattle.nomos_legal.specs.Ledger.{LedgerState, account_of}
 use Rattle.nomos_machine.specs.OutsideTalk.{IsOutsideBy, TalksTo}
 use Rattle.nomos_machine.specs.State.{State, gas_of}
 use Rattle.nomos_machine.specs.Wrong.{Wrong}
-use Rattle.nomos_monitor.specs.Opening.{OpensNamed}
+use Rattle.nomos_monitor.specs.TalkOpening.{OpensNamed}
 use Rattle.nomos_monitor.specs.TalkCourse.{TalkReply}
 use Rattle.nomos_report.specs.Reported.{report_of}
 use Rattle.nomos_script.specs.TalkReading.{ReadsAsTalk}

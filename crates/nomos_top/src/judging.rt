@@ -6,7 +6,7 @@ ghost use Rattle.nomos_due.specs.Outside.{source_state};
 ghost use Rattle.nomos_top.specs.mirror.Judging.{ReadsContract, unaccepted_of, JudgesText, Judges, JudgesLeast};
 
 use nomos_accept::accepting::accept;
-use nomos_accept::refusal::{AcceptError, Why};
+use nomos_accept::why::{AcceptError, Why};
 use nomos_base::{ReadError, Source, read_all};
 use nomos_ir::limits::TEXT_LIMIT;
 use nomos_least::least::{LeastBounds, least};

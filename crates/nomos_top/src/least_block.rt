@@ -4,7 +4,7 @@ ghost use Rattle.std.specs.Prelude.{◌≡◌, ◌++◌, IfOk, OnOk};
 ghost use Rattle.nomos_report.specs.Block.{accepted_block};
 ghost use Rattle.nomos_top.specs.LeastBlock.{least_line, proof_lines, least_block};
 
-use crate::refusal::push_weights;
+use crate::refusal_lines::push_weights;
 use nomos_base::push_gas;
 use nomos_least::least::LeastBounds;
 use nomos_report::block::push_block;

@@ -1,17 +1,17 @@
 //! The whole program: from its words, its sources and its sinks to its status.
 #![tactic(auto)]
 
-mod alone;
-mod crew;
-mod due;
+mod call_due;
+mod contract_alone;
+mod crew_due;
 mod judging;
 mod least_block;
-mod pools;
-mod refusal;
+mod pool_due;
+mod refusal_lines;
 mod scripts;
 mod snapshots;
 mod stage;
-mod talks;
+mod talk_due;
 mod top;
 mod unaccepted;
 

@@ -14,7 +14,7 @@ ghost use Rattle.nomos_top.specs.mirror.Judging.{IsTaskDueOn, IsTaskPartOn, give
 ghost use Rattle.nomos_words.specs.Words.{run, replay, bench};
 ghost use Rattle.nomos_words.specs.declared.workers.Workers.{Workers};
 
-use crate::due::{CallDue, DoneSoFar, due_behind};
+use crate::call_due::{CallDue, DoneSoFar, due_behind};
 use crate::judging::{judge, judge_auction};
 use crate::unaccepted::unaccepted_due;
 use nomos_base::Source;

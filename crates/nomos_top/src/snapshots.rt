@@ -2,7 +2,7 @@
 
 ghost use Rattle.std.specs.Prelude.{◌≡◌, ℕ, List, Ok, Some, None, IfOk, IfErr};
 ghost use Rattle.nomos_due.specs.Outside.{SourceState, source_state};
-ghost use Rattle.nomos_due.specs.Runs.{usual_orders};
+ghost use Rattle.nomos_due.specs.RunsDue.{usual_orders};
 ghost use Rattle.nomos_due.specs.Sources.{IsResumeDueFor, IsResumePartFor, IsRunPartFor, IsSaveDueFor};
 ghost use Rattle.nomos_legal.specs.Ledger.{LedgerState};
 ghost use Rattle.nomos_snapshot.specs.Loading.{Loads};
@@ -10,7 +10,7 @@ ghost use Rattle.nomos_top.specs.mirror.Judging.{IsTaskDueOn, IsTaskPartOn, give
 ghost use Rattle.nomos_types.specs.Acceptance.{Acceptance};
 ghost use Rattle.nomos_words.specs.Words.{resume, save};
 
-use crate::due::{CallDue, DoneSoFar, due_behind};
+use crate::call_due::{CallDue, DoneSoFar, due_behind};
 use crate::judging::judge;
 use crate::unaccepted::unaccepted_due;
 use nomos_base::Source;

@@ -20,14 +20,14 @@ ghost use Rattle.nomos_types.specs.Acceptance.{Acceptance, IsAccepted};
 ghost use Rattle.nomos_words.specs.Jobs.{task};
 ghost use Rattle.nomos_words.specs.Words.{Asks};
 
-use crate::alone::{check_due, least_due};
-use crate::crew::run_due_by_crew;
-use crate::due::{CallDue, DoneSoFar, line_due};
-use crate::pools::pool_due;
+use crate::call_due::{CallDue, DoneSoFar, line_due};
+use crate::contract_alone::{check_due, least_due};
+use crate::crew_due::run_due_by_crew;
+use crate::pool_due::pool_due;
 use crate::scripts::{bench_due, replay_due, run_due};
 use crate::snapshots::{resume_due, save_due};
-use crate::stage::Stage;
-use crate::talks::talk_due;
+use crate::stage::CallStage;
+use crate::talk_due::talk_due;
 use nomos_base::{Sink, Source};
 use nomos_due::benches::Load;
 use nomos_due::written::write_due;
@@ -147,7 +147,7 @@ pub fn nomos<S: Source, K: Sink, G: Gate, R: Threads + Wait + Sync>(
     if !may_wait(words) {
         return nomos_by_one(alloc, words, contract, script, journal_in, out, journal_out);
     }
-    let stage = Stage { rt, gate, alloc };
+    let stage = CallStage { rt, gate, alloc };
     let due = waiting_due(&stage, words, contract, script);
     let ended = end_call(due, out, journal_out);
     know_accepted(&ended.accepted);
@@ -420,7 +420,7 @@ fn job_due<S: Source>(
 
 // What is due for words that ask for a run by several workers, or for one whose lines threads submit.
 fn waiting_due<S: Source, G: Gate, R: Threads + Wait + Sync>(
-    stage: &Stage<'_, G, R>,
+    stage: &CallStage<'_, G, R>,
     words: &[String],
     contract: &mut S,
     script: &mut S,

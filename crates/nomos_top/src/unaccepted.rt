@@ -5,10 +5,10 @@ ghost use Rattle.nomos_top.specs.Outcome.{bare};
 ghost use Rattle.nomos_top.specs.Refusal.{refusal, unsolved_line};
 ghost use Rattle.nomos_top.specs.mirror.Judging.{IsDueOut, IsNothing, outcome_of};
 
-use crate::due::{CallDue, DoneSoFar, bare_due, line_due, nothing_done};
+use crate::call_due::{CallDue, DoneSoFar, bare_due, line_due, nothing_done};
 use crate::judging::Unaccepted;
-use crate::refusal::{refusal, unsolved_line};
-use nomos_accept::refusal::Why;
+use crate::refusal_lines::{refusal, unsolved_line};
+use nomos_accept::why::Why;
 use nomos_simplex::solved::Stop;
 use std::alloc::Global;
 

@@ -1,5 +1,5 @@
 //! Tests: what is answered to words, to contracts that are checked, and to searches for least bounds.
-use crate::calling::{ACCEPTED, CUT_SHORT, EMPTY_ACCEPTED, FLIP, HALVES, expect, repeated};
+use crate::top_calls::{ACCEPTED, CUT_SHORT, EMPTY_ACCEPTED, FLIP, HALVES, expect, repeated};
 use nomos_ir::limits::TEXT_LIMIT;
 use std::process::Abort;
 use std::sync::Wait;

@@ -1,5 +1,5 @@
 //! Tests: calls of which a read or a write fails.
-use crate::calling::{BIT, Faults, NEVER, NO_FAULTS, answer_in_pieces, expect_in_pieces};
+use crate::top_calls::{BIT, Faults, NEVER, NO_FAULTS, answer_in_pieces, expect_in_pieces};
 use std::process::Abort;
 use std::sync::Wait;
 use std::test::Fail;

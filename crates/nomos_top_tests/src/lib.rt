@@ -2,14 +2,14 @@
 #![tactic(auto)]
 
 #[cfg(test)]
-mod calling;
+mod answer_tests;
 #[cfg(test)]
 mod check_tests;
 #[cfg(test)]
 mod fault_tests;
 #[cfg(test)]
-mod run_tests;
+mod served_tests;
 #[cfg(test)]
 mod snapshot_tests;
 #[cfg(test)]
-mod talk_tests;
+mod top_calls;

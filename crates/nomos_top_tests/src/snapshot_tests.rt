@@ -1,5 +1,5 @@
 //! Tests: what is answered where a ledger is saved, and where a script is run from one.
-use crate::calling::{Faults, NEVER, NO_FAULTS, answer_in_pieces, expect, expect_in_pieces};
+use crate::top_calls::{Faults, NEVER, NO_FAULTS, answer_in_pieces, expect, expect_in_pieces};
 use std::process::Abort;
 use std::sync::Wait;
 use std::test::Fail;

@@ -11,7 +11,7 @@ use Rattle.nomos_types.specs.Modes.{HasMode}
 use Rattle.nomos_types.proofs.ModeLaws.{mode-in_range, mode-unique}
 use Rattle.nomos_machine.specs.State.{type_of}
 use Rattle.nomos_typed.specs.declared.told.Told.{Told}
-use Rattle.nomos_typed.specs.mirror.Told.{AreAlikeIn, FindsType, NameFits, program_of}
+use Rattle.nomos_typed.specs.mirror.ComparedWith.{AreAlikeIn, FindsType, NameFits, program_of}
 
 module _ {lists : ProgramLists} {x : Annotations} {own t : TypeId} {m n : Mode} where
   pub alike-equal : HasMode lists own m → HasMode lists t n → m ≡ n

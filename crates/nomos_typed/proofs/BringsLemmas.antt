@@ -19,8 +19,8 @@ use Rattle.nomos_machine.specs.declared.object.Payload.{Payload}
 use Rattle.nomos_machine.specs.declared.object.Payload.TheVariants as payload
 use Rattle.nomos_typed.proofs.HeadLemmas.{unfolds-below}
 use Rattle.nomos_typed.specs.declared.told.Told.{Told}
-use Rattle.nomos_typed.specs.mirror.Heads.{PayloadFits, goes_of}
-use Rattle.nomos_typed.specs.mirror.Told.{GoesOn, FindsType, acceptance_of, program_of, amounts_in}
+use Rattle.nomos_typed.specs.mirror.MessageHeads.{PayloadFits, goes_of}
+use Rattle.nomos_typed.specs.mirror.ComparedWith.{GoesOn, FindsType, acceptance_of, program_of, amounts_in}
 
 some-from : {X : Type 0} {x : X} → (o : Option X) → o ≡ Some x → IsSome o
 some-from (Some y) is = refl

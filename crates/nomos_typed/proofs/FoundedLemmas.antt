@@ -10,7 +10,7 @@ use Rattle.nomos_typed.proofs.TieLemmas.{mode-typed, typed-mode}
 use Rattle.nomos_typed.specs.Founded.{NameHasMode}
 use Rattle.nomos_typed.specs.declared.told.Told.{Told}
 use Rattle.nomos_typed.specs.mirror.Ties.{mode_in}
-use Rattle.nomos_typed.specs.mirror.Told.{IsTold, program_of}
+use Rattle.nomos_typed.specs.mirror.ComparedWith.{IsTold, program_of}
 
 some-there : {X : Type 0} (o : Option X) (x : X) → o ≡ Some x → IsSome o
 some-there (Some y) x is = refl

@@ -24,7 +24,7 @@ use Rattle.nomos_equality.specs.declared.hop.Hop.TheVariants as hop
 use Rattle.nomos_equality.proofs.PathLaws.{part-below, there-below}
 use Rattle.nomos_machine.specs.declared.object.Payload.{Payload}
 use Rattle.nomos_machine.specs.declared.object.Payload.TheVariants as payload
-use Rattle.nomos_typed.specs.mirror.Heads.{sent_by, due_by, goes_of}
+use Rattle.nomos_typed.specs.mirror.MessageHeads.{sent_by, due_by, goes_of}
 
 -- a type that unfolds to something is one of the program
 pub unfolds-below : (lists : ProgramLists) (t : ℕ) (n : TypeNode) → Unfolds lists t n → t < length lists.types

@@ -11,7 +11,7 @@ use Rattle.std.specs.Option.{option_map}
 use Rattle.std.specs.Ordering.{nat_cmp, is_lt}
 use Rattle.nomos_ir.specs.declared.ids.TypeId.{TypeId}
 use Rattle.nomos_machine.specs.State.{NameTypes, type_of}
-use Rattle.nomos_typed.specs.mirror.Told.{AreInOrder, IsPlaceOf}
+use Rattle.nomos_typed.specs.mirror.ComparedWith.{AreInOrder, IsPlaceOf}
 
 module _ (name : ℕ) where
   abbrev Lower : ℕ × TypeId → Type 0

@@ -15,7 +15,7 @@ use Rattle.nomos_types.specs.Acceptance.{Acceptance, IsAccepted}
 use Rattle.nomos_types.specs.Modes.{HasMode}
 use Rattle.nomos_typed.specs.Founded.{IsFounded, ObjectFounded}
 use Rattle.nomos_typed.specs.Messages.{IsMessageTyped}
-use Rattle.nomos_typed.specs.Typed.{AreProcessesPlaced, ArePartsTyped, IsPlaced, ObjectPlaced}
+use Rattle.nomos_typed.specs.StateTyped.{AreProcessesPlaced, ArePartsTyped, IsPlaced, ObjectPlaced}
 
 module _ (a : Acceptance) (types : NameTypes) (accounts : ℕ) where
   process-founded : (p : Process) → ProcessTyped a types accounts p → IsFounded a.program types accounts p

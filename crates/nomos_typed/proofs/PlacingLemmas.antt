@@ -42,10 +42,10 @@ use Rattle.nomos_types.specs.Acceptance.{Acceptance, IsAccepted}
 use Rattle.nomos_types.specs.Derivation.{Derives}
 use Rattle.nomos_types.specs.Judgement.{IsJudgement, Judgement, ListType, count_one, with_potential}
 use Rattle.nomos_types.specs.Modes.{HasMode, IsLinearMode}
-use Rattle.nomos_typed.specs.Typed.{AreProcessesPlaced, IsPlaced, ObjectPlaced}
+use Rattle.nomos_typed.specs.StateTyped.{AreProcessesPlaced, IsPlaced, ObjectPlaced}
 use Rattle.nomos_typed.specs.declared.told.Told.{Told}
 use Rattle.nomos_typed.specs.mirror.AtPlaces.{AreTypesIn, HasChannels, HasPlainly, IsMarkedAt, MarksObject, is_reference, ObjectIsKnown, ObjectMarked, PlaceIsKnown, is_some}
-use Rattle.nomos_typed.specs.mirror.Told.{NameFits}
+use Rattle.nomos_typed.specs.mirror.ComparedWith.{NameFits}
 
 -- ---- marks
 

@@ -29,9 +29,9 @@ use Rattle.nomos_typed.specs.declared.sections.Talk.{Talk}
 use Rattle.nomos_typed.specs.declared.told.Told.{Told}
 use Rattle.nomos_typed.specs.mirror.Leading.{AreLed, IsLed, led_by, led_of, onward_by, onward_of}
 use Rattle.nomos_typed.specs.mirror.Leading as leading
-use Rattle.nomos_typed.specs.mirror.Talks.{AreTalks, HasBack, IsTalkOf, at_l, talks_at_l}
+use Rattle.nomos_typed.specs.mirror.TypedTalks.{AreTalks, HasBack, IsTalkOf, at_l, talks_at_l}
 use Rattle.nomos_typed.specs.mirror.Ties.{mode_in}
-use Rattle.nomos_typed.specs.mirror.Told.{IsTold, acceptance_of, program_of}
+use Rattle.nomos_typed.specs.mirror.ComparedWith.{IsTold, acceptance_of, program_of}
 
 -- ---- parts of objects
 

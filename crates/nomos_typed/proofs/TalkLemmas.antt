@@ -7,7 +7,7 @@ use Rattle.nomos_ir.specs.declared.ids.TypeId.{TypeId}
 use Rattle.nomos_ir.specs.Program.{IsProgram}
 use Rattle.nomos_ir.specs.declared.amount.Amount.{Amount}
 use Rattle.nomos_ir.specs.declared.lists.ProgramLists.{ProgramLists}
-use Rattle.nomos_sync.specs.Continuing.{StandAtDown}
+use Rattle.nomos_equality.specs.Continuing.{StandAtDown}
 use Rattle.nomos_types.specs.Acceptance.{Acceptance, IsAmountOf}
 use Rattle.nomos_typed.proofs.HeadLemmas.{unfolded-amount}
 use Rattle.nomos_typed.specs.declared.sections.Decided.{Decided}
@@ -15,7 +15,7 @@ use Rattle.nomos_types.specs.Synchronizing.{IsSynchronizingAt}
 use Rattle.nomos_typed.specs.declared.leading.Led.{Led}
 use Rattle.nomos_typed.specs.declared.sections.Talk.{Talk}
 use Rattle.nomos_typed.specs.declared.told.Told.{Told}
-use Rattle.nomos_typed.specs.mirror.Talks.{AreTalks, HasBack, IsBack, IsDecided, IsTalkAmong, IsTalkFor, IsTalkOf}
+use Rattle.nomos_typed.specs.mirror.TypedTalks.{AreTalks, HasBack, IsBack, IsDecided, IsTalkAmong, IsTalkFor, IsTalkOf}
 
 front-more : {X : Type 0} (xs : List X) (i : ℕ) (x : X) → i < length xs → x ≡ get_or xs i x
     → take (i + 1) xs ≡ take i xs ++ x ∷ []

@@ -27,7 +27,7 @@ use Rattle.nomos_typed.specs.declared.tie.Tie.{Tie}
 use Rattle.nomos_typed.specs.declared.tie.Tie.TheVariants as tie
 use Rattle.nomos_typed.specs.declared.told.Told.{Told}
 use Rattle.nomos_typed.specs.mirror.Ties.{AreTied, IsOften, all_tied, is_limited, is_once, limited, mode_in, once, tied, times_at, times_for}
-use Rattle.nomos_typed.specs.mirror.Told.{AreInOrder, FindsType, IsTold, acceptance_of, program_of}
+use Rattle.nomos_typed.specs.mirror.ComparedWith.{AreInOrder, FindsType, IsTold, acceptance_of, program_of}
 
 abbrev keys : NameTypes → List ℕ
 keys types = map (λ t. t.0) types

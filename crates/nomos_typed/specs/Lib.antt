@@ -3,5 +3,5 @@ pub mod Founded
 pub mod Messages
 pub mod Owning
 pub mod Sections
-pub mod Typed
+pub mod StateTyped
 pub mod mirror

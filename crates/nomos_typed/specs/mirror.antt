@@ -1,8 +1,8 @@
 -- What private calls answer; no promise stands on these.
-pub mod Told
-pub mod Heads
+pub mod ComparedWith
+pub mod MessageHeads
 pub mod Leading
 pub mod AtPlaces
 pub mod Purses
-pub mod Talks
+pub mod TypedTalks
 pub mod Ties

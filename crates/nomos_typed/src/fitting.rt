@@ -5,10 +5,10 @@ ghost use Rattle.nomos_ir.specs.Bindings.{IsAscending};
 ghost use Rattle.nomos_ir.specs.Paired.{ArePaired};
 ghost use Rattle.nomos_ir.specs.ValueKind.{ValueHasKind};
 ghost use Rattle.nomos_typed.specs.Telling.{Tells};
-ghost use Rattle.nomos_typed.specs.mirror.Told.{IsTold, IsTypeIn, NameFits, program_of, amounts_in};
+ghost use Rattle.nomos_typed.specs.mirror.ComparedWith.{IsTold, IsTypeIn, NameFits, program_of, amounts_in};
 
-use crate::comparing::has_type;
-use crate::kinds::has_kind;
+use crate::data_kinds::has_kind;
+use crate::likeness::has_type;
 use crate::told::Told;
 use nomos_equality::equalities::Equalities;
 use nomos_ir::ids::{TypeId, VarId};

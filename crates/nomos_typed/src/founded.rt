@@ -4,7 +4,7 @@ ghost use Rattle.nomos_contents.specs.Data.{IsOrdered};
 ghost use Rattle.nomos_machine.specs.Matching.{HasBase};
 ghost use Rattle.nomos_machine.specs.Objects.{object_number};
 ghost use Rattle.nomos_typed.specs.Founded.{NameHasMode, IsFounded, ObjectFounded, AreObjectsFounded};
-ghost use Rattle.nomos_typed.specs.mirror.Told.{IsTold, program_of};
+ghost use Rattle.nomos_typed.specs.mirror.ComparedWith.{IsTold, program_of};
 
 use crate::both::{all_three, both};
 use crate::owning::mode_in;

@@ -1,9 +1,9 @@
 //! What the node of a type asks of a message in a direction.
 ghost use Rattle.std.specs.Prelude.{◌≡◌, ◌↔◌, IsTrue};
-ghost use Rattle.nomos_typed.specs.mirror.Heads.{LabelFits, sent_by, kind_by, due_by, IsEnd, goes_of};
+ghost use Rattle.nomos_typed.specs.mirror.MessageHeads.{LabelFits, sent_by, kind_by, due_by, IsEnd, goes_of};
 
 use nomos_equality::hop::Hop;
-use nomos_equality::parts::{goes_by, part_by};
+use nomos_equality::node_parts::{goes_by, part_by};
 use nomos_ir::amount::Amount;
 use nomos_ir::ids::{Label, TypeId};
 use nomos_ir::kind::Kind;

@@ -2,14 +2,14 @@
 #![tactic(auto)]
 
 mod both;
-mod comparing;
+mod data_kinds;
 pub mod fitting;
 pub mod founded;
 mod heads;
-mod kinds;
 mod leading;
-pub mod messages;
-mod naming;
+mod likeness;
+pub mod message_types;
+mod named_by;
 mod once;
 pub mod owning;
 pub mod placing;

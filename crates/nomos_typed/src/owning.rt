@@ -6,10 +6,10 @@ ghost use Rattle.nomos_contents.specs.Data.{IsOrdered};
 ghost use Rattle.nomos_ir.specs.Order.{count_of};
 ghost use Rattle.nomos_typed.specs.Owning.{AreNamesMentioned, AreNamesOwned};
 ghost use Rattle.nomos_typed.specs.mirror.Ties.{mode_in, limited, once, all_tied, AreTied};
-ghost use Rattle.nomos_typed.specs.mirror.Told.{IsTold};
+ghost use Rattle.nomos_typed.specs.mirror.ComparedWith.{IsTold};
 
 use crate::both::all_three;
-use crate::naming::all_tied;
+use crate::named_by::all_tied;
 use crate::once::stand_once;
 use crate::tie::{Tie, is_limited, is_once, times_for};
 use crate::told::Told;

@@ -1,7 +1,7 @@
 //! What the objects of a state are compared with.
 ghost use Rattle.std.specs.Prelude.{◌≡◌, ◌↔◌, IsTrue};
 ghost use Rattle.nomos_types.specs.Modes.{HasMode};
-ghost use Rattle.nomos_typed.specs.mirror.Told.{IsTold, IsTypeIn, AreInOrder, IsPlaceOf, FindsType};
+ghost use Rattle.nomos_typed.specs.mirror.ComparedWith.{IsTold, IsTypeIn, AreInOrder, IsPlaceOf, FindsType};
 
 use nomos_ir::ids::TypeId;
 use nomos_ir::mode::Mode;

@@ -2,11 +2,11 @@
 ghost use Rattle.std.specs.Prelude.{◌↔◌, IsTrue, IfOk};
 ghost use Rattle.nomos_contents.specs.Data.{IsOrdered, state_of};
 ghost use Rattle.nomos_machine.specs.TypedState.{IsTyped};
-ghost use Rattle.nomos_typed.specs.Typed.{ArePartsTyped, AreProcessesPlaced};
+ghost use Rattle.nomos_typed.specs.StateTyped.{ArePartsTyped, AreProcessesPlaced};
 
 use crate::both::{all_three, both};
 use crate::founded::are_objects_founded;
-use crate::messages::are_messages_typed;
+use crate::message_types::are_messages_typed;
 use crate::owning::{are_names_mentioned, are_names_owned};
 use crate::placing::are_processes_placed;
 use crate::sections::are_in_sections;

@@ -7,7 +7,7 @@ use Rattle.nomos_machine.specs.Resting.{ComesToRest}
 use Rattle.nomos_machine.specs.State.{State}
 use Rattle.nomos_machine.specs.declared.rest.Rest.{Rest}
 use Rattle.nomos_machine.specs.declared.rest.Rest.TheVariants as rest
-use Rattle.nomos_monitor.specs.Opening.{OpensNamed}
+use Rattle.nomos_monitor.specs.TalkOpening.{OpensNamed}
 use Rattle.nomos_monitor.specs.Talks.{TalkState}
 use Rattle.nomos_monitor.specs.TalkCourse as course
 use Rattle.nomos_monitor.specs.TalkCourse.{IsStopped, TalkGoesOn, TalkReply}

@@ -5,11 +5,11 @@ use Rattle.std.proofs.lemmas.List.{append-nil}
 use Rattle.nomos_types.specs.Acceptance.{Acceptance}
 use Rattle.nomos_legal.specs.Ledger.{LedgerState, account_of}
 use Rattle.nomos_machine.specs.State.{State}
-use Rattle.nomos_monitor.specs.Opening.{IsTalkRefused}
+use Rattle.nomos_monitor.specs.TalkOpening.{IsTalkRefused}
 use Rattle.nomos_monitor.specs.TalkCourse as course
 use Rattle.nomos_monitor.specs.TalkCourse.{HoldsTalk}
-use Rattle.nomos_monitor.specs.declared.refusal.TalkRefusal.{TalkRefusal}
-use Rattle.nomos_monitor.specs.declared.refusal.TalkRefusal.TheVariants as refusal
+use Rattle.nomos_monitor.specs.declared.talk_refusal.TalkRefusal.{TalkRefusal}
+use Rattle.nomos_monitor.specs.declared.talk_refusal.TalkRefusal.TheVariants as refusal
 use Rattle.nomos_script.specs.declared.talk_line.TalkLine.{TalkLine}
 use Rattle.nomos_visit.specs.TalkHeld.{HasToldIn}
 use Rattle.nomos_visit.specs.TalkText.{refused_text, talk_line_text, turns_of}

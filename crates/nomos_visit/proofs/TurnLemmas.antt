@@ -11,11 +11,11 @@ use Rattle.nomos_machine.specs.declared.object.Heard.{Heard}
 use Rattle.nomos_machine.specs.declared.object.Said.{Said}
 use Rattle.nomos_machine.specs.declared.rest.Rest.{Rest}
 use Rattle.nomos_machine.specs.declared.rest.Rest.TheVariants as rest
-use Rattle.nomos_monitor.specs.Answers.{AnswersSaying, IsUnsaid}
+use Rattle.nomos_monitor.specs.SayAnswers.{AnswersSaying, IsUnsaid}
 use Rattle.nomos_monitor.specs.TalkCourse as course
 use Rattle.nomos_monitor.specs.TalkCourse.{IsStopped, TalkGoesOn, TalkReply, speaks, listens}
-use Rattle.nomos_monitor.specs.declared.refusal.SayError.{SayError}
-use Rattle.nomos_monitor.specs.declared.refusal.SayError.TheVariants as error
+use Rattle.nomos_monitor.specs.declared.talk_refusal.SayError.{SayError}
+use Rattle.nomos_monitor.specs.declared.talk_refusal.SayError.TheVariants as error
 use Rattle.nomos_visit.specs.TalkText.{heard_text, is_to_line, replies_text, reply_text, stopped_text, talk_line_text, unsaid_text}
 use Rattle.nomos_visit.specs.mirror.Holding.{ArePrinted, ComesOn, HasSettled, HasTaken, IsRestTold}
 use Rattle.nomos_visit.specs.declared.held.HeldTalk.{HeldTalk}

@@ -12,14 +12,14 @@ use Rattle.nomos_machine.specs.declared.rest.Rest.{Rest}
 use Rattle.nomos_machine.specs.declared.rest.Rest.TheVariants as rest
 use Rattle.nomos_monitor.specs.TalkCourse as course
 use Rattle.nomos_monitor.specs.TalkCourse.{PartyTurn, TalkReply, speaks, listens}
-use Rattle.nomos_monitor.specs.declared.refusal.SayError.{SayError}
-use Rattle.nomos_monitor.specs.declared.refusal.SayError.TheVariants as error
-use Rattle.nomos_monitor.specs.declared.refusal.TalkRefusal.{TalkRefusal}
-use Rattle.nomos_monitor.specs.declared.refusal.TalkRefusal.TheVariants as refusal
+use Rattle.nomos_monitor.specs.declared.talk_refusal.SayError.{SayError}
+use Rattle.nomos_monitor.specs.declared.talk_refusal.SayError.TheVariants as error
+use Rattle.nomos_monitor.specs.declared.talk_refusal.TalkRefusal.{TalkRefusal}
+use Rattle.nomos_monitor.specs.declared.talk_refusal.TalkRefusal.TheVariants as refusal
 use Rattle.nomos_script.specs.declared.talk_line.TalkLine.{TalkLine}
 use Rattle.nomos_script.specs.declared.talk_line.TalkLine.TheVariants as talk_line
 use Rattle.nomos_texts.specs.Cause.{fault_text}
-use Rattle.nomos_texts.specs.Value.{value_text}
+use Rattle.nomos_texts.specs.ValueTexts.{value_text}
 
 -- ---- what lines say
 

@@ -4,7 +4,7 @@ use Rattle.nomos_types.specs.Acceptance.{Acceptance}
 use Rattle.nomos_script.specs.declared.talk_line.TalkLine.{TalkLine}
 use Rattle.nomos_legal.specs.Ledger.{LedgerState, account_of}
 use Rattle.nomos_monitor.specs.TalkCourse.{HoldsTalk, PartyTurn, TalkReply, refused}
-use Rattle.nomos_monitor.specs.declared.refusal.TalkRefusal.TheVariants as refusal
+use Rattle.nomos_monitor.specs.declared.talk_refusal.TalkRefusal.TheVariants as refusal
 use Rattle.nomos_visit.specs.TalkText.{replies_text}
 
 -- The talk of the account of this name in a ledger, with so many firings in all: whether all is done that the party

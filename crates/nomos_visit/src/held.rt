@@ -3,22 +3,22 @@
 ghost use Rattle.std.specs.Prelude.{◌≡◌, ◌+◌, ◌∷◌, [], ℕ, IfOk, List, None, OnOk, length, true};
 ghost use Rattle.nomos_deeds.specs.Firings.{MayFire};
 ghost use Rattle.nomos_machine.specs.State.{State};
-ghost use Rattle.nomos_monitor.specs.Opening.{OpensNamed};
+ghost use Rattle.nomos_monitor.specs.TalkOpening.{OpensNamed};
 ghost use Rattle.nomos_monitor.specs.TalkCourse.{listens, speaks};
 ghost use Rattle.nomos_legal.specs.StandsFor.{StandsFor};
 ghost use Rattle.nomos_visit.specs.TalkText.{turn_of};
 ghost use Rattle.nomos_visit.specs.TalkHeld.{LeavesNumbers, HasToldIn};
 ghost use Rattle.nomos_visit.specs.mirror.Holding.{HasHeld, HasSettled, HasTaken, HasTold, IsHeld, IsToldBehind, IsToldRefused};
 
-use crate::labels::LabelTexts;
+use crate::label_texts::LabelTexts;
 use crate::replies::{push_heard, push_opened, push_refused, push_said, push_stopped, push_unsaid};
 use nomos_deeds::talking::Talking;
 use nomos_ledger::ledger::Ledger;
 use nomos_machine::object::Said;
 use nomos_machine::rest::Rest;
 use nomos_monitor::outside_talk::{OutsideTalk, TalkOpening, open_talk};
-use nomos_monitor::refusal::{SayError, TalkRefusal};
 use nomos_monitor::rested::Rested;
+use nomos_monitor::talk_refusal::{SayError, TalkRefusal};
 use nomos_script::talk_line::TalkLine;
 use nomos_types::accepted::Accepted;
 use std::alloc::{AllocError, Global};

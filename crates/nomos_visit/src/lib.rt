@@ -2,5 +2,5 @@
 #![tactic(auto)]
 
 pub mod held;
-mod labels;
+mod label_texts;
 mod replies;

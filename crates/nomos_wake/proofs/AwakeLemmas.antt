@@ -5,7 +5,7 @@ use Rattle.std.specs.BTreeSet.{BTreeSet, contains}
 use Rattle.nomos_deeds.specs.Lowest.{FindsNext}
 use Rattle.nomos_wake.specs.Covering.{HasProxy, IsNoted, MayBeReady, by_both}
 use Rattle.nomos_wake.specs.declared.awake.Awake.{Awake}
-use Rattle.nomos_wake.specs.mirror.Telling.{IsToldOver, Tells}
+use Rattle.nomos_wake.specs.mirror.ToldSets.{IsToldOver, Tells}
 
 pub tells-same : (w : Awake) → Tells w w
 tells-same w = record { ready = λ q may. may; waiting = refl; followed = λ n is. is; sought = refl }

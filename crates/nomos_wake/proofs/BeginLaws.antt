@@ -29,7 +29,7 @@ use Rattle.nomos_machine.proofs.PutLaws.{contains-one}
 use Rattle.nomos_machine.proofs.UserLaws.{user_of-found}
 use Rattle.nomos_types.proofs.OccurrenceLaws.{contained}
 use Rattle.nomos_deeds.specs.Readers.{acquires, acquires_at, waits}
-use Rattle.nomos_wake.specs.Beginning.{HasGrown, IsNewIn}
+use Rattle.nomos_wake.specs.ProcessesCome.{HasGrown, IsNewIn}
 use Rattle.nomos_wake.specs.Covering.{Covers, IsFollowed, IsNoted, MayBeReady}
 use Rattle.nomos_wake.specs.Woken.{IsSameBut, Woken, itself, client, provider, releasing, acquiring}
 use Rattle.nomos_wake.specs.declared.awake.Awake.{Awake}

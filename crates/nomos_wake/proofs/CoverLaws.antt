@@ -27,7 +27,7 @@ use Rattle.nomos_wake.specs.declared.awake.Awake.{Awake}
 use Rattle.nomos_wake.specs.declared.touch.Incoming.{Incoming}
 use Rattle.nomos_wake.specs.declared.touch.Touch.{Touch}
 use Rattle.nomos_wake.specs.declared.waking.Foreseen.{Foreseen}
-use Rattle.nomos_wake.specs.mirror.Telling.{Tells}
+use Rattle.nomos_wake.specs.mirror.ToldSets.{Tells}
 use Rattle.nomos_wake.specs.mirror.Waking.{Leaves, MayWakeBy, WakesBy, WakesHeard}
 use Rattle.nomos_wake.proofs.AwakeLemmas.{noted-back, noted-on, proxy-on, tells-same, tells-twice}
 use Rattle.nomos_wake.proofs.TouchLaws.{step-same_but}

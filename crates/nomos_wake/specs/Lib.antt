@@ -1,4 +1,4 @@
-pub mod Beginning
+pub mod ProcessesCome
 pub mod Covering
 pub mod Foreseeing
 pub mod Touching

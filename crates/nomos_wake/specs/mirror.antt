@@ -1,3 +1,3 @@
 pub mod Seeking
-pub mod Telling
+pub mod ToldSets
 pub mod Waking

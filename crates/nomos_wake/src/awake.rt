@@ -4,7 +4,7 @@ ghost use Rattle.std.specs.BTreeSet.{contains};
 ghost use Rattle.std.specs.Ordering.{nat_cmp};
 ghost use Rattle.nomos_deeds.specs.Lowest.{FindsNext};
 ghost use Rattle.nomos_wake.specs.Covering.{HasProxy, IsFollowed, IsNoted, MayBeReady};
-ghost use Rattle.nomos_wake.specs.mirror.Telling.{IsToldOver, Tells};
+ghost use Rattle.nomos_wake.specs.mirror.ToldSets.{IsToldOver, Tells};
 
 use std::alloc::Global;
 use std::collections::BTreeSet;

@@ -9,7 +9,7 @@ ghost use Rattle.nomos_deeds.specs.Readers.{waits};
 ghost use Rattle.nomos_wake.specs.Covering.{Covers, HasProxy, IsNoted, MayBeReady};
 ghost use Rattle.nomos_wake.specs.Foreseeing.{IsForeseen};
 ghost use Rattle.nomos_wake.specs.Woken.{IsSpokenTo};
-ghost use Rattle.nomos_wake.specs.mirror.Telling.{Tells};
+ghost use Rattle.nomos_wake.specs.mirror.ToldSets.{Tells};
 ghost use Rattle.nomos_wake.specs.mirror.Waking.{Leaves, MayWakeBy, WakesBy, WakesHeard};
 
 use crate::awake::Awake;

@@ -5,7 +5,7 @@ ghost use Rattle.nomos_journal.specs.JournalText.{placed_lines};
 ghost use Rattle.nomos_journal.specs.Text.{lines_text};
 
 use nomos_deeds::undo::Undo;
-use nomos_journal::firing::push_firings;
+use nomos_journal::firing_lines::push_firings;
 use nomos_journal::line::{JournalLine, Version, push_line};
 use nomos_ledger::world::World;
 use nomos_legal::journal::End;

@@ -7,7 +7,7 @@ ghost use Rattle.nomos_words.specs.FindsOne.{FindsOne};
 ghost use Rattle.nomos_words.specs.Jobs.{task};
 ghost use Rattle.nomos_words.specs.Words.{Asks, AsksFile};
 
-use crate::numbers::{read_count, read_seed, steps_of};
+use crate::number_words::{read_count, read_seed, steps_of};
 use crate::options::{given_of, is_file_word, is_journal};
 use crate::workers::{Workers, workers_of};
 

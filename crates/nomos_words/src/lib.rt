@@ -5,7 +5,7 @@ mod auction;
 mod counted;
 pub mod job;
 pub mod load;
-mod numbers;
+mod number_words;
 mod options;
 pub mod summary;
 pub mod usage;

@@ -4,7 +4,7 @@ ghost use Rattle.std.specs.Option.{option_map};
 ghost use Rattle.nomos_words.specs.FindsOne.{FindsOne};
 ghost use Rattle.nomos_words.specs.Options.{AreWorkers, IsPolicy};
 
-use crate::numbers::count_or;
+use crate::number_words::count_or;
 use nomos_machine::policy::Policy;
 
 /// Who fires: one worker, which chooses by a policy, or so many of them, from 2 to 16.

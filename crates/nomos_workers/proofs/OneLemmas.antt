@@ -17,9 +17,9 @@ use Rattle.nomos_legal.specs.declared.journal.End.TheVariants as end
 use Rattle.nomos_legal.specs.declared.journal.Firing.{Firing}
 use Rattle.nomos_legal.proofs.WorldLaws.{world-rises}
 use Rattle.nomos_ledger.specs.Calls.{HasFired}
-use Rattle.nomos_watch.proofs.StartLaws.{fresh-start}
+use Rattle.nomos_ledger.proofs.StartLaws.{fresh-start}
 use Rattle.nomos_ledger.specs.Running.{MayRun}
-use Rattle.nomos_workers.specs.mirror.Steps.{HasMade, firing_of}
+use Rattle.nomos_workers.specs.mirror.WorkerSteps.{HasMade, firing_of}
 use Rattle.nomos_workers.proofs.PolicyLaws.{follows-push}
 
 -- worlds with one origin and the same starts have one start

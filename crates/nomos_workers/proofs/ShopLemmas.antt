@@ -6,7 +6,7 @@ use Rattle.nomos_deeds.specs.Acting.{HasNumbers}
 use Rattle.nomos_legal.specs.StandsFor.{WorldStandsFor}
 use Rattle.nomos_legal.specs.World.{WorldState, ledger_begun}
 use Rattle.nomos_legal.proofs.WorldLaws.{world-rises}
-use Rattle.nomos_watch.proofs.StartLaws.{fresh-start}
+use Rattle.nomos_ledger.proofs.StartLaws.{fresh-start}
 use Rattle.nomos_ledger.specs.Running.{MayRun, RunsOn}
 use Rattle.nomos_workers.specs.Shops.{IsShop, ShopState, opening}
 

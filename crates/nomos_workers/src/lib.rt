@@ -3,8 +3,10 @@
 
 pub mod batch;
 pub mod gate;
+pub mod look;
 pub mod one;
 pub mod run;
 mod several;
 pub mod shop;
+pub mod trade;
 pub mod work;

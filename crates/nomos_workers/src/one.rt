@@ -7,17 +7,17 @@ ghost use Rattle.nomos_legal.specs.StandsFor.{WorldStandsFor};
 ghost use Rattle.nomos_deeds.specs.Acting.{HasNumbers};
 ghost use Rattle.nomos_ledger.specs.Running.{MayRun};
 ghost use Rattle.nomos_workers.specs.OneWorker.{EndsBy, RunsBy};
-ghost use Rattle.nomos_workers.specs.mirror.Steps.{Steps};
-ghost use Rattle.nomos_watch.specs.Watching.{IsWatched};
+ghost use Rattle.nomos_workers.specs.mirror.WorkerSteps.{Steps};
+ghost use Rattle.nomos_ledger.specs.Watching.{IsWatched};
 
 use crate::batch::{BatchEnd, Ran};
 use nomos_deeds::fire::Fire;
 use nomos_deeds::undo::Undo;
+use nomos_ledger::watched::Watched;
 use nomos_ledger::world::World;
 use nomos_legal::journal::{End, Firing};
 use nomos_machine::policy::Policy;
 use nomos_types::accepted::Accepted;
-use nomos_watch::watched::Watched;
 use std::alloc::{AllocError, Global};
 
 // By what a worker chooses: the policy, and the process that fired last, or 0 where none did.

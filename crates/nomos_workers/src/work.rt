@@ -1,76 +1,74 @@
-//! One worker of several: it takes turns with its pass until it finds an end.
-ghost use Rattle.std.specs.Prelude.{◌≡◌, IfOk, IfSome};
+//! One worker of several: it takes turns with its pass until it stops.
+ghost use Rattle.std.specs.Prelude.{◌≡◌, ℕ, List, IfOk, IfSome};
 ghost use mathlib.Core.List.{IsPrefix};
 ghost use Rattle.nomos_floor.specs.FloorPass.{AddsAtMostOne, IsPassOf, IsTurnOf, KeepsNumbers, opened_work, own_of, pass_number, pass_of, seen_by, taken_history};
 ghost use Rattle.nomos_floor.specs.OwnEntries.{mine};
-ghost use Rattle.nomos_workers.specs.Shops.{HasRun, ShopState, history_of, opening};
-ghost use Rattle.nomos_workers.specs.mirror.Turns.{HasTurned, IsKnown, LeadsTo, TurnsOut};
+ghost use Rattle.nomos_workers.specs.Looks.{IsKnown, TurnsOut};
+ghost use Rattle.nomos_workers.specs.mirror.WorkerTurns.{LeadsTo};
 
-use crate::batch::BatchEnd;
 use crate::gate::Gate;
-use crate::shop::{Asked, Known, Seeks, Shop, Turned};
-use nomos_deeds::undo::Undo;
-use nomos_eval::wanted::evaluate;
+use crate::trade::{Seeks, Trade, Turned};
 use nomos_floor::floor::{Floor, Pass, Turn};
-use nomos_ledger::lent::Lent;
 use std::alloc::{AllocError, Global};
 use std::sync::Wait;
 
 // The most looks of one turn, each of which makes a firing at most.
 const LOOKS_IN_A_TURN: u32 = 256;
 
-/// What a worker comes to: its pass, and how the batch ended for it.
+/// What a worker comes to: its pass, and how it stopped.
 #[derive(Drop)]
-pub struct Worked<A: Lent, M: Undo + Drop> {
-    pub pass: Pass<Shop<A, M>>,
-    pub end: BatchEnd,
+pub struct Worked<W: Trade> {
+    pub pass: Pass<W>,
+    pub end: W::Stop,
 }
 
 // A turn, and what its last look came to. That may have made a firing which is not counted yet.
-struct Looked<A: Lent, M: Undo + Drop> {
-    turn: Turn<Shop<A, M>>,
-    turned: Result<Turned<A>, AllocError>,
+struct Looked<W: Trade> {
+    turn: Turn<W>,
+    turned: Result<Turned<W::Asked, W::Stop>, AllocError>,
 }
 
 // A pass after a turn, and what the last look of the turn came to.
 #[derive(Drop)]
-struct Took<A: Lent, M: Undo + Drop> {
-    pass: Pass<Shop<A, M>>,
-    turned: Result<Turned<A>, AllocError>,
+struct Took<W: Trade> {
+    pass: Pass<W>,
+    turned: Result<Turned<W::Asked, W::Stop>, AllocError>,
 }
 
 // What a worker does after a turn.
 #[derive(Drop)]
-pub(crate) enum Onward {
+pub(crate) enum GoesOn<S> {
     Seeks(Seeks),
-    Ends(BatchEnd),
+    Ends(S),
 }
 
-// Fires in a turn until a look finds an end, a process is to be evaluated first, memory is wanting, or enough looks
+// Fires in a turn until a look tells to stop, a process is to be evaluated first, memory is wanting, or enough looks
 // were made. Each firing is counted before the next look, but for that of the last look.
-fn carry_on<A: Lent, M: Undo + Drop>(
+fn carry_on<W: Trade>(
     alloc: Global,
-    floor: &Floor<Shop<A, M>>,
-    mut turn: Turn<Shop<A, M>>,
+    floor: &Floor<W>,
+    mut turn: Turn<W>,
     mut seeks: Seeks,
-) -> Looked<A, M>
+) -> Looked<W>
     requires of_floor { IsTurnOf floor.now turn }
-    requires start { opening turn.work ≡ opening (opened_work floor.now) }
-    requires fresh { history_of turn.work ≡ taken_history turn }
-    requires known { IfSome seeks.known (IsKnown (opened_work floor.now).accepted) }
+    requires start { W.start turn.work ≡ W.start (opened_work floor.now) }
+    requires fresh { W.history turn.work ≡ taken_history turn }
+    requires known { IfSome seeks.known (IsKnown (W.program (W.start (opened_work floor.now)))) }
     ensures of_floor { IsTurnOf floor.now result.turn }
-    ensures start { opening result.turn.work ≡ opening (opened_work floor.now) }
+    ensures start { W.start result.turn.work ≡ W.start (opened_work floor.now) }
     ensures history { AddsAtMostOne (pass_number (pass_of result.turn)) (taken_history result.turn)
-        (history_of result.turn.work) }
-    ensures seen { IsPrefix (taken_history turn) (history_of result.turn.work) }
+        (W.history result.turn.work) }
+    ensures seen { IsPrefix (taken_history turn) (W.history result.turn.work) }
     ensures kept { KeepsNumbers (pass_of turn) (pass_of result.turn) }
-    ensures turned { HasTurned A.program (opening (opened_work floor.now)) (history_of result.turn.work)
-        result.turned }
+    ensures turns { IfOk result.turned
+        (TurnsOut (λ asked. W.asked_of asked ≡ W.program (W.start (opened_work floor.now)))
+        (W.stops (opened_work floor.now) (W.history result.turn.work))) }
+    ensures free { W.stops (opened_work floor.now) (W.history result.turn.work) W.wanting }
 {
     let number = turn.number();
     'looks: for _ in 1..LOOKS_IN_A_TURN {
         let turned = turn.work.step(alloc, number, &seeks);
-        let Ok(Turned::Fired(pid)) = turned else {
+        let Ok(Turned::Goes(pid)) = turned else {
             return Looked { turn, turned };
         };
         turn = floor.go_on(turn);
@@ -84,20 +82,23 @@ fn carry_on<A: Lent, M: Undo + Drop>(
 }
 
 // Takes one turn, with what was evaluated before it, if anything.
-fn take_one<A: Lent, M: Undo + Drop, R: Wait>(
+fn take_one<W: Trade, R: Wait>(
     rt: &R,
     alloc: Global,
-    floor: &Floor<Shop<A, M>>,
-    pass: Pass<Shop<A, M>>,
+    floor: &Floor<W>,
+    pass: Pass<W>,
     seeks: Seeks,
-) -> Took<A, M>
+) -> Took<W>
     requires of_floor { IsPassOf floor.now pass }
-    requires known { IfSome seeks.known (IsKnown (opened_work floor.now).accepted) }
+    requires known { IfSome seeks.known (IsKnown (W.program (W.start (opened_work floor.now)))) }
     ensures of_floor { IsPassOf floor.now result.pass }
     ensures kept { KeepsNumbers pass result.pass }
     ensures seen { IsPrefix (seen_by pass) (seen_by result.pass) }
     ensures own { own_of result.pass ≡ mine (pass_number result.pass) (seen_by result.pass) }
-    ensures turned { HasTurned A.program (opening (opened_work floor.now)) (seen_by result.pass) result.turned }
+    ensures turns { IfOk result.turned
+        (TurnsOut (λ asked. W.asked_of asked ≡ W.program (W.start (opened_work floor.now)))
+        (W.stops (opened_work floor.now) (seen_by result.pass))) }
+    ensures free { W.stops (opened_work floor.now) (seen_by result.pass) W.wanting }
 {
     let turn = floor.take_turn(rt, pass);
     let Looked { turn, turned } = carry_on(alloc, floor, turn, seeks);
@@ -105,38 +106,47 @@ fn take_one<A: Lent, M: Undo + Drop, R: Wait>(
     Took { pass, turned }
 }
 
-// Evaluates what was asked, outside the turn. The worker then looks from that process on.
-fn evaluate_asked<A: Lent, G: Gate>(alloc: Global, gate: &G, worker: u32, asked: Asked<A>) -> Onward
-    ensures { (s : ShopState) → A.program asked.lent ≡ s.accepted → LeadsTo s result }
+// Evaluates what was asked of a process, outside the turn. The worker then looks from that process on.
+fn evaluate_asked<W: Trade, G: Gate>(
+    alloc: Global,
+    gate: &G,
+    worker: u32,
+    pid: u32,
+    asked: W::Asked,
+) -> GoesOn<W::Stop>
+    ensures { (opened : W) (history : List (ℕ × W.Entry)) → W.stops opened history W.wanting
+        → W.asked_of asked ≡ W.program (W.start opened)
+        → LeadsTo (W.program (W.start opened)) (W.stops opened history) result }
 {
-    let Asked { lent, pid, wanted } = asked;
     gate.before_eval(worker, pid);
-    match evaluate(alloc, lent.accepted().program(), &wanted) {
-        Ok(outcome) => Onward::Seeks(Seeks {
+    match W::evaluate(alloc, asked) {
+        Ok(known) => GoesOn::Seeks(Seeks {
             after: pid.saturating_sub(1),
-            known: Some(Known { wanted, outcome }),
+            known: Some(known),
         }),
-        Err(_) => Onward::Ends(BatchEnd::NoMemory),
+        Err(_) => GoesOn::Ends(W::no_memory()),
     }
 }
 
 // What the worker of a number does after a turn that came to this.
-fn after_turn<A: Lent, G: Gate>(
+fn after_turn<W: Trade, G: Gate>(
     alloc: Global,
     gate: &G,
     worker: u32,
-    turned: Result<Turned<A>, AllocError>,
-) -> Onward
-    ensures { (s : ShopState) → IfOk turned (TurnsOut A.program s) → LeadsTo s result }
+    turned: Result<Turned<W::Asked, W::Stop>, AllocError>,
+) -> GoesOn<W::Stop>
+    ensures { (opened : W) (history : List (ℕ × W.Entry)) → W.stops opened history W.wanting
+        → IfOk turned (TurnsOut (λ asked. W.asked_of asked ≡ W.program (W.start opened)) (W.stops opened history))
+        → LeadsTo (W.program (W.start opened)) (W.stops opened history) result }
 {
     match turned {
-        Ok(Turned::Fired(pid)) => Onward::Seeks(Seeks {
+        Ok(Turned::Goes(pid)) => GoesOn::Seeks(Seeks {
             after: pid,
             known: None,
         }),
-        Ok(Turned::Wants(asked)) => evaluate_asked(alloc, gate, worker, asked),
-        Ok(Turned::Ends(end)) => Onward::Ends(BatchEnd::Done(end)),
-        Err(_) => Onward::Ends(BatchEnd::NoMemory),
+        Ok(Turned::Wants(pid, asked)) => evaluate_asked::<W, G>(alloc, gate, worker, pid, asked),
+        Ok(Turned::Ends(stop)) => GoesOn::Ends(stop),
+        Err(_) => GoesOn::Ends(W::no_memory()),
     }
 }
 
@@ -145,19 +155,19 @@ fn after_turn<A: Lent, G: Gate>(
 /// last, and at its own number before that. Terms are evaluated after the turn was given back and the gate was called;
 /// in its next turn the worker first fires the first process that is ready from there on, and uses the outcome only
 /// where that process stands at this instruction with these values. Nothing says when the turns come.
-pub fn work<A: Lent, M: Undo + Drop, G: Gate, R: Wait>(
+pub fn work<W: Trade, G: Gate, R: Wait>(
     rt: &R,
     alloc: Global,
-    floor: &Floor<Shop<A, M>>,
-    mut pass: Pass<Shop<A, M>>,
+    floor: &Floor<W>,
+    mut pass: Pass<W>,
     gate: &G,
-) -> Worked<A, M>
+) -> Worked<W>
     requires { IsPassOf floor.now pass }
     ensures of_floor { IsPassOf floor.now result.pass }
     ensures kept { KeepsNumbers pass result.pass }
     ensures seen { IsPrefix (seen_by pass) (seen_by result.pass) }
     ensures own { own_of result.pass ≡ mine (pass_number result.pass) (seen_by result.pass) }
-    ensures run { HasRun (opening (opened_work floor.now)) (seen_by result.pass) result.end }
+    ensures run { W.stops (opened_work floor.now) (seen_by result.pass) result.end }
 {
     let number = pass.number();
     let mut seeks = Seeks {
@@ -167,9 +177,9 @@ pub fn work<A: Lent, M: Undo + Drop, G: Gate, R: Wait>(
     'turns: for _ in rt.forever() {
         let Took { pass: same, turned } = take_one(rt, alloc, floor, pass, seeks);
         pass = same;
-        match after_turn(alloc, gate, number, turned) {
-            Onward::Seeks(next) => seeks = next,
-            Onward::Ends(end) => return Worked { pass, end },
+        match after_turn::<W, G>(alloc, gate, number, turned) {
+            GoesOn::Seeks(next) => seeks = next,
+            GoesOn::Ends(end) => return Worked { pass, end },
         }
     }
     unreachable!()

@@ -2,7 +2,7 @@
 use Rattle.std.specs.Prelude.{ℕ, List, Result, Ok, Err}
 use Rattle.nomos_accept.specs.TypedText.{IsReadAs}
 use Rattle.nomos_accept.specs.Preparing.{AnswersRefusal}
-use Rattle.nomos_accept.specs.declared.refusal.AcceptError.{AcceptError}
+use Rattle.nomos_accept.specs.declared.why.AcceptError.{AcceptError}
 use Rattle.nomos_ir.specs.declared.lists.ProgramLists.{ProgramLists}
 
 abbrev pub AnswersRead : List ℕ → Result ProgramLists AcceptError → Type 0

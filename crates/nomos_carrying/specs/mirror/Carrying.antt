@@ -2,7 +2,7 @@
 use Rattle.std.specs.Prelude.{ℕ, List}
 use Rattle.nomos_due.specs.Finding.{IsBareOf, SavesWhole}
 use Rattle.nomos_due.specs.Outside.{HasText, SourceState, input_of}
-use Rattle.nomos_due.specs.Runs.{HasRunFrom, usual_orders}
+use Rattle.nomos_due.specs.RunsDue.{HasRunFrom, usual_orders}
 use Rattle.nomos_due.specs.declared.due.Due.{Due}
 use Rattle.nomos_legal.specs.Ledger.{LedgerState}
 use Rattle.nomos_legal.specs.Passage.{Passage}

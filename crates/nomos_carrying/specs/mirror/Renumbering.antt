@@ -12,10 +12,10 @@ use Rattle.nomos_legal.specs.StandsFor.{StandsFor}
 use Rattle.nomos_snapshot.specs.Loading.{Admits, Loads, TellsLedger}
 use Rattle.nomos_snapshot.specs.Saving.{Saves}
 use Rattle.nomos_snapshot.specs.Text.{snapshot_text}
-use Rattle.nomos_snapshot.specs.Told.{parts_ledger}
+use Rattle.nomos_snapshot.specs.ToldLines.{parts_ledger}
 use Rattle.nomos_snapshot.specs.declared.error.LoadError.{LoadError}
 use Rattle.nomos_snapshot.specs.declared.error.SaveError.{SaveError}
-use Rattle.nomos_snapshot.specs.declared.parts.LedgerParts.{LedgerParts}
+use Rattle.nomos_snapshot.specs.declared.ledger_parts.LedgerParts.{LedgerParts}
 use Rattle.nomos_types.specs.Acceptance.{Acceptance}
 use Rattle.nomos_words.specs.Options.{usual_limit}
 use Rattle.nomos_carrying.specs.CarryDue.{TellsNumbers}

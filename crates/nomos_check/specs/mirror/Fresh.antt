@@ -1,9 +1,9 @@
 -- A mirror of the code: what stands before anything is gathered.
 use Rattle.std.specs.Prelude.{◌≡◌, [], None}
-use Rattle.nomos_check.specs.declared.walk.Walk.{Walk}
+use Rattle.nomos_check.specs.declared.code_walk.CodeWalk.{CodeWalk}
 
 -- nothing was gathered, and nothing is left to do
-pub record IsFresh (w : Walk) : Type 0 where
+pub record IsFresh (w : CodeWalk) : Type 0 where
   pub forms : w.forms.items ≡ []
   pub pairs : w.asked.pairs.items ≡ []
   pub stuck : w.stuck ≡ None

@@ -19,13 +19,13 @@ use Rattle.nomos_check.specs.declared.checking.Checked.{Checked}
 use Rattle.nomos_check.specs.declared.checking.ProcError.{ProcError}
 use Rattle.nomos_check.specs.declared.checking.ProcError.TheVariants as error
 use Rattle.nomos_check.specs.declared.standing.Standing.{Standing}
-use Rattle.nomos_check.specs.declared.walk.Stuck.{Stuck}
-use Rattle.nomos_check.specs.declared.walk.Walk.{Walk}
+use Rattle.nomos_check.specs.declared.code_walk.Stuck.{Stuck}
+use Rattle.nomos_check.specs.declared.code_walk.CodeWalk.{CodeWalk}
 use Rattle.nomos_check.specs.mirror.StandingData.{HasPair}
 use Rattle.nomos_check.specs.mirror.Walking.{IsDone, IsReached, StuckOf}
 
 -- what the process asks for from the outset on was gathered, beside what was compared before
-pub record IsGathered (lists : ProgramLists) (n : ℕ) (o : Outset) (known : Compared) (w : Walk) : Type 0 where
+pub record IsGathered (lists : ProgramLists) (n : ℕ) (o : Outset) (known : Compared) (w : CodeWalk) : Type 0 where
   pub done : (j : Judgement) (a : Account) → GetsTo lists o j a → IsDone lists n w j a
   pub forms : (f : Form) → Contains w.forms.items f → IsFormOf lists n o f
   pub pairs : w.stuck ≡ None → (pair : Amount × Amount) → HasPair w.asked pair
@@ -36,7 +36,7 @@ pub record IsGathered (lists : ProgramLists) (n : ℕ) (o : Outset) (known : Com
   pub potentials : (e : CodeId × Form) → Contains w.potentials.items e → IsPotentialAt lists n o e.0 e.1
 
 -- all that the declaration with this number asks for
-abbrev pub GathersAll : ProgramLists → ProcId → Walk → Walk → Type 0
+abbrev pub GathersAll : ProgramLists → ProcId → CodeWalk → CodeWalk → Type 0
 GathersAll lists p old new =
     (d : ProcDecl) → slice_get lists.procs p.0 ≡ Some d
     → IsGathered lists (star_count lists) (outset_of lists d) old.asked.equalities new

@@ -20,8 +20,8 @@ use Rattle.nomos_check.specs.declared.standing.Carried.{Carried}
 use Rattle.nomos_check.specs.declared.standing.Standing.{Standing}
 use Rattle.nomos_check.specs.declared.standing.Step.{Step}
 use Rattle.nomos_check.specs.declared.standing.Step.TheVariants as step
-use Rattle.nomos_check.specs.declared.standing.Way.{Way}
-use Rattle.nomos_check.specs.declared.standing.Way.TheVariants as way
+use Rattle.nomos_check.specs.declared.standing.WayOn.{WayOn}
+use Rattle.nomos_check.specs.declared.standing.WayOn.TheVariants as way
 use Rattle.nomos_check.specs.mirror.FormLimits.{IsAmountOf}
 
 -- a list whose amount is ignored
@@ -60,7 +60,7 @@ pub record IsWithin (lists : ProgramLists) (s : Standing) : Type 0 where
 -- ---- ways
 
 -- where a way leads
-abbrev pub way_shape : Judgement → Way → Judgement
+abbrev pub way_shape : Judgement → WayOn → Judgement
 way_shape j (way.Label c t next) = goes_on j c t next
 way_shape j (way.Truth next) = at_code j next
 way_shape j (way.Empty w next) = without_list j w next
@@ -68,7 +68,7 @@ way_shape j (way.Full p) =
     with_potential (takes_parts j p.list p.head p.tail (shape_of_list p.carried) p.next) 0
 
 -- and with which account
-abbrev pub way_account : Account → Way → Account
+abbrev pub way_account : Account → WayOn → Account
 way_account a (way.Label c t next) = a
 way_account a (way.Truth next) = a
 way_account a (way.Empty w next) = with_lists a (unbind w.0 a.lists)
@@ -76,7 +76,7 @@ way_account a (way.Full p) =
     gains p.carried.amount (with_lists a (bind p.tail p.carried.amount (unbind p.list.0 a.lists)))
 
 -- the list that is taken apart is there
-abbrev pub IsWayOf : Standing → Way → Type 0
+abbrev pub IsWayOf : Standing → WayOn → Type 0
 IsWayOf s (way.Full p) = bound_to p.list.0 s.lists ≡ Some p.carried
 IsWayOf s _ = Unit {0}
 
@@ -95,7 +95,7 @@ pub record LeadsTo (lists : ProgramLists) (s next : Standing) : Type 0 where
 
 -- The instruction leads on these ways: its rule goes on with their judgements, and each account that the standing
 -- has goes on as their accounts.
-pub record LeadsAlong (lists : ProgramLists) (s : Standing) (ways : List Way) : Type 0 where
+pub record LeadsAlong (lists : ProgramLists) (s : Standing) (ways : List WayOn) : Type 0 where
   pub row : TypingRule lists no_amounts (shape_of s) (map (way_shape (shape_of s)) ways)
   pub account : (n : CodeNode) (a : Account) → StandsAtCode lists (shape_of s) n → HasAccount (star_count lists) s a
       → accounts_after lists n a ≡ map (way_account a) ways

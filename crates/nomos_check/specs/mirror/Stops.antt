@@ -1,6 +1,6 @@
 -- A mirror of the code: which instruction is stuck first.
 use Rattle.std.specs.Prelude.{Option, Some, None, nat_lt, if◌then◌else◌}
-use Rattle.nomos_check.specs.declared.walk.Stuck.{Stuck}
+use Rattle.nomos_check.specs.declared.code_walk.Stuck.{Stuck}
 
 -- the one of the two that is stuck first
 abbrev pub first_stuck : Option Stuck → Stuck → Option Stuck

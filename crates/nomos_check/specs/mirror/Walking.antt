@@ -16,10 +16,10 @@ use Rattle.nomos_ir.specs.Instruction.{code_offset, code_form}
 use Rattle.nomos_check.specs.Reaching.{Outset, GetsTo, IsPointAt, IsFormOf}
 use Rattle.nomos_check.specs.declared.standing.Forks.{Forks}
 use Rattle.nomos_check.specs.declared.standing.Standing.{Standing}
-use Rattle.nomos_check.specs.declared.standing.Way.{Way}
-use Rattle.nomos_check.specs.declared.standing.Way.TheVariants as way
-use Rattle.nomos_check.specs.declared.walk.Stuck.{Stuck}
-use Rattle.nomos_check.specs.declared.walk.Walk.{Walk}
+use Rattle.nomos_check.specs.declared.standing.WayOn.{WayOn}
+use Rattle.nomos_check.specs.declared.standing.WayOn.TheVariants as way
+use Rattle.nomos_check.specs.declared.code_walk.Stuck.{Stuck}
+use Rattle.nomos_check.specs.declared.code_walk.CodeWalk.{CodeWalk}
 use Rattle.nomos_check.specs.mirror.Stops.{first_stuck}
 use Rattle.nomos_check.specs.mirror.StandingData.{shape_of, HasAccount, IsWithin, way_shape, way_account, IsWayOf, NoRow, HasPair, JoinsAsked}
 use Rattle.nomos_check.specs.InHand.{IsWanted, IsPotentialAt}
@@ -43,33 +43,33 @@ pub record IsReached (lists : ProgramLists) (n : ℕ) (o : Outset) (s : Standing
 -- ---- places that are wanted
 
 -- what is in hand where the process gets to was kept
-pub record HasPlace (n : ℕ) (w : Walk) (j : Judgement) (a : Account) : Type 0 where
+pub record HasPlace (n : ℕ) (w : CodeWalk) (j : Judgement) (a : Account) : Type 0 where
   pub standing : Standing
   pub among : Contains w.places.items standing
   pub shape : shape_of standing ≡ j
   pub has : HasAccount n standing a
 
 -- the same is wanted, and what was kept stays
-pub record KeepsPlaces (old new : Walk) : Type 0 where
+pub record KeepsPlaces (old new : CodeWalk) : Type 0 where
   pub wanted : new.wanted.now ≡ old.wanted.now
   pub kept : (t : Standing) → Contains old.places.items t → Contains new.places.items t
   pub noted : (e : CodeId × Form) → Contains old.potentials.items e → Contains new.potentials.items e
 
 -- what is in hand there is kept too, where it is wanted, and nothing else
-pub record TakesPlace (s : Standing) (old new : Walk) : Type 0 where
+pub record TakesPlace (s : Standing) (old new : CodeWalk) : Type 0 where
   pub kept : (t : Standing) → Contains old.places.items t → Contains new.places.items t
   pub one : (t : Standing) → Contains new.places.items t → Contains old.places.items t ⊎ (t ≡ s)
   pub here : IsWanted old.wanted.now s.code.0 → Contains new.places.items s
 
 -- the potential there is kept too, where something is said of what is wanted, and nothing else
-pub record TakesPotential (s : Standing) (old new : Walk) : Type 0 where
+pub record TakesPotential (s : Standing) (old new : CodeWalk) : Type 0 where
   pub kept : (e : CodeId × Form) → Contains old.potentials.items e → Contains new.potentials.items e
   pub one : (e : CodeId × Form) → Contains new.potentials.items e
       → Contains old.potentials.items e ⊎ (e ≡ (s.code, s.potential))
   pub here : s.code.0 < length old.wanted.now → Contains new.potentials.items (s.code, s.potential)
 
 -- both are kept, and the same is wanted
-pub record Takes (s : Standing) (old new : Walk) : Type 0 where
+pub record Takes (s : Standing) (old new : CodeWalk) : Type 0 where
   pub wanted : new.wanted.now ≡ old.wanted.now
   pub place : TakesPlace s old new
   pub potential : TakesPotential s old new
@@ -82,7 +82,7 @@ IsStuckBy (Some s) at = s.at ≤ at
 IsStuckBy None at = ⊥
 
 -- all that a place asks for was gathered
-pub record IsDone (lists : ProgramLists) (n : ℕ) (w : Walk) (j : Judgement) (a : Account) : Type 0 where
+pub record IsDone (lists : ProgramLists) (n : ℕ) (w : CodeWalk) (j : Judgement) (a : Account) : Type 0 where
   pub forms : (f : Form) → IsFormAt lists n j a f → Contains w.forms.items f
   pub pairs : w.stuck ≡ None → (pair : Amount × Amount) → AsksPair lists j a pair → HasPair w.asked pair
   pub row : w.stuck ≡ None → (after : List Judgement) × TypingRule lists no_amounts j after
@@ -91,7 +91,7 @@ pub record IsDone (lists : ProgramLists) (n : ℕ) (w : Walk) (j : Judgement) (a
   pub noted : j.code.0 < length w.wanted.now → Contains w.potentials.items (j.code, form_of n a)
 
 -- nothing of what was gathered is lost; pairs count only where nothing is stuck
-pub record Grows (old new : Walk) : Type 0 where
+pub record Grows (old new : CodeWalk) : Type 0 where
   pub forms : (f : Form) → Contains old.forms.items f → Contains new.forms.items f
   pub pairs : new.stuck ≡ None → (pair : Amount × Amount) → HasPair old.asked pair → HasPair new.asked pair
   pub stuck : (at : ℕ) → IsStuckBy old.stuck at → IsStuckBy new.stuck at
@@ -110,7 +110,7 @@ pub record StuckOf (lists : ProgramLists) (o : Outset) (s : Stuck) : Type 0 wher
   pub is_form : code_form node ≡ s.form
 
 -- what was gathered beyond the old is asked for where the process gets to
-pub record Gathers (lists : ProgramLists) (n : ℕ) (o : Outset) (old new : Walk) : Type 0 where
+pub record Gathers (lists : ProgramLists) (n : ℕ) (o : Outset) (old new : CodeWalk) : Type 0 where
   pub forms : (f : Form) → Contains new.forms.items f → Contains old.forms.items f ⊎ IsFormOf lists n o f
   pub pairs : new.stuck ≡ None → (pair : Amount × Amount) → HasPair new.asked pair
       → HasPair old.asked pair ⊎ IsAsked lists o pair
@@ -139,7 +139,7 @@ pub record AtStanding (lists : ProgramLists) (n : ℕ) (s : Standing) (j : Judge
   pub leads : LeadsFrom lists (shape_of s) account j a
 
 -- the code leads there along a way
-pub record AlongWay (lists : ProgramLists) (n : ℕ) (f : Forks) (w : Way) (j : Judgement) (a : Account) : Type 0 where
+pub record AlongWay (lists : ProgramLists) (n : ℕ) (f : Forks) (w : WayOn) (j : Judgement) (a : Account) : Type 0 where
   pub account : Account
   pub has : HasAccount n f.before account
   pub leads : LeadsFrom lists (way_shape (shape_of f.before) w) (way_account account w) j a
@@ -148,7 +148,7 @@ pub record AlongWay (lists : ProgramLists) (n : ℕ) (f : Forks) (w : Way) (j : 
 pub record IsPending (lists : ProgramLists) (n : ℕ) (todo : List Forks) (j : Judgement) (a : Account) : Type 0 where
   pub forks : Forks
   pub among : Contains todo forks
-  pub way : Way
+  pub way : WayOn
   pub inside : Contains forks.ways.items way
   pub along : AlongWay lists n forks way j a
 
@@ -158,11 +158,11 @@ pub record IsOpen (lists : ProgramLists) (n : ℕ) (o : Outset) (f : Forks) : Ty
   pub has : HasAccount n f.before account
   pub base : GetsTo lists o (shape_of f.before) account
   pub there : All (IsWayOf f.before) f.ways.items
-  pub reached : (w : Way) → Contains f.ways.items w
+  pub reached : (w : WayOn) → Contains f.ways.items w
       → GetsTo lists o (way_shape (shape_of f.before) w) (way_account account w)
 
 -- Of what the process gets to from the outset, all is done but what is left to do.
-pub record Walking (lists : ProgramLists) (n : ℕ) (o : Outset) (first : Walk) (todo : List Forks) (w : Walk)
+pub record Walking (lists : ProgramLists) (n : ℕ) (o : Outset) (first : CodeWalk) (todo : List Forks) (w : CodeWalk)
     : Type 0 where
   pub complete : (j : Judgement) (a : Account) → GetsTo lists o j a
       → IsDone lists n w j a ⊎ IsPending lists n todo j a
@@ -182,7 +182,7 @@ weight width zero = width + 2
 weight width (suc place) = (width + 2) * weight width place
 
 -- the number of the instruction to which a way leads
-abbrev pub way_next : Way → ℕ
+abbrev pub way_next : WayOn → ℕ
 way_next (way.Label c t next) = next.0
 way_next (way.Truth next) = next.0
 way_next (way.Empty w next) = next.0
@@ -197,7 +197,7 @@ work width todo = sum_by (forks_work width) todo
 -- ---- what is told of going along the code
 
 -- the forms of a place were noted
-pub record NotesForms (lists : ProgramLists) (s : Standing) (old new : Walk) : Type 0 where
+pub record NotesForms (lists : ProgramLists) (s : Standing) (old new : CodeWalk) : Type 0 where
   pub asked : new.asked ≡ old.asked
   pub stuck : new.stuck ≡ old.stuck
   pub todo : new.todo ≡ old.todo
@@ -208,7 +208,7 @@ pub record NotesForms (lists : ProgramLists) (s : Standing) (old new : Walk) : T
       → Contains new.forms.items f ↔ (Contains old.forms.items f ⊎ IsFormAt lists (star_count lists) (shape_of s) a f)
 
 -- a place was noted
-pub record Notes (lists : ProgramLists) (s : Standing) (old new : Walk) : Type 0 where
+pub record Notes (lists : ProgramLists) (s : Standing) (old new : CodeWalk) : Type 0 where
   pub takes : Takes s old new
   pub asked : new.asked ≡ old.asked
   pub stuck : new.stuck ≡ old.stuck
@@ -217,7 +217,7 @@ pub record Notes (lists : ProgramLists) (s : Standing) (old new : Walk) : Type 0
       → Contains new.forms.items f ↔ (Contains old.forms.items f ⊎ IsFormAt lists (star_count lists) (shape_of s) a f)
 
 -- From where the process stands, all is done but the ways that were added to what is left to do.
-pub record Goes (lists : ProgramLists) (n : ℕ) (now : Standing) (old new : Walk) : Type 0 where
+pub record Goes (lists : ProgramLists) (n : ℕ) (now : Standing) (old new : CodeWalk) : Type 0 where
   pub added : List Forks
   pub todo : new.todo ≡ added ++ old.todo
   pub light : work (width lists) added < weight (width lists) now.code.0
@@ -228,7 +228,7 @@ pub record Goes (lists : ProgramLists) (n : ℕ) (now : Standing) (old new : Wal
   pub is_open : (o : Outset) → IsReached lists n o now → All (IsOpen lists n o) added
 
 -- on the way from the one standing to the other
-pub record Going (lists : ProgramLists) (n : ℕ) (first now : Standing) (old new : Walk) : Type 0 where
+pub record Going (lists : ProgramLists) (n : ℕ) (first now : Standing) (old new : CodeWalk) : Type 0 where
   pub not_later : now.code.0 ≤ first.code.0
   pub todo : new.todo ≡ old.todo
   pub grows : Grows old new
@@ -238,7 +238,7 @@ pub record Going (lists : ProgramLists) (n : ℕ) (first now : Standing) (old ne
   pub reached : (o : Outset) → IsReached lists n o first → IsReached lists n o now
 
 -- all that a standing asks for was gathered
-pub record Visits (lists : ProgramLists) (s : Standing) (old new : Walk) : Type 0 where
+pub record Visits (lists : ProgramLists) (s : Standing) (old new : CodeWalk) : Type 0 where
   pub forms : (a : Account) → HasAccount (star_count lists) s a → (f : Form)
       → Contains new.forms.items f ↔ (Contains old.forms.items f ⊎ IsFormAt lists (star_count lists) (shape_of s) a f)
   pub pairs : new.stuck ≡ None → JoinsAsked lists s old.asked new.asked
@@ -256,13 +256,13 @@ pub record IsOnWay (lists : ProgramLists) (n : ℕ) (s : Standing) : Type 0 wher
   pub reached : IsReached lists n outset s
 
 -- a walk from some outset in order
-pub record IsWalk (lists : ProgramLists) (n : ℕ) (todo : List Forks) (w : Walk) : Type 0 where
+pub record IsWalk (lists : ProgramLists) (n : ℕ) (todo : List Forks) (w : CodeWalk) : Type 0 where
   pub outset : Outset
   pub within : StaysWithin lists n outset
-  pub first : Walk
+  pub first : CodeWalk
   pub walking : Walking lists n outset first todo w
 
 -- what was so far a walk goes on as one
-abbrev pub WalksOn : ProgramLists → ℕ → List Forks → Walk → List Forks → Walk → Type 0
+abbrev pub WalksOn : ProgramLists → ℕ → List Forks → CodeWalk → List Forks → CodeWalk → Type 0
 WalksOn lists n todo old rest new =
-    (o : Outset) (first : Walk) → Walking lists n o first todo old → Walking lists n o first rest new
+    (o : Outset) (first : CodeWalk) → Walking lists n o first todo old → Walking lists n o first rest new

@@ -7,7 +7,7 @@ use Rattle.nomos_ir.specs.declared.type_node.TypeNode.{TypeNode}
 use Rattle.nomos_types.specs.Unfolding.{IsUnfolding}
 use Rattle.nomos_equality.specs.declared.hop.Hop.{Hop}
 use Rattle.nomos_equality.specs.declared.known.Known.{Known}
-use Rattle.nomos_equality.specs.declared.search.Visit.{Visit}
+use Rattle.nomos_equality.specs.declared.difference.TypeVisit.{TypeVisit}
 use Rattle.nomos_equality.specs.Answer.{StandOnce}
 use Rattle.nomos_equality.specs.Comparing.{Compared, IsFront}
 use Rattle.nomos_equality.specs.Paths.{part_by, paid_by, StandAtEqualPaths}
@@ -22,7 +22,7 @@ abbrev pub Among : List (TypeId × TypeId) → TypeId → TypeId → Type 0
 Among pairs a b = Contains pairs (a, b)
 
 -- the two types, as a visit
-abbrev pub visit_at : TypeId → TypeId → Visit
+abbrev pub visit_at : TypeId → TypeId → TypeVisit
 visit_at a b = record { left = a; right = b; from = None }
 
 -- the two types are met: their pair was there, or is put at the end and is to be looked at

@@ -13,9 +13,9 @@ use Rattle.nomos_equality.specs.declared.equality.Comparison.{Comparison}
 use Rattle.nomos_equality.specs.declared.equality.Comparison.TheVariants as comparison
 use Rattle.nomos_equality.specs.declared.hop.Hop.{Hop}
 use Rattle.nomos_equality.specs.declared.hop.Hop.TheVariants as hop
-use Rattle.nomos_equality.specs.declared.search.Origin.{Origin}
-use Rattle.nomos_equality.specs.declared.search.Visit.{Visit}
-use Rattle.nomos_equality.specs.declared.search.Search.{Search}
+use Rattle.nomos_equality.specs.declared.difference.Origin.{Origin}
+use Rattle.nomos_equality.specs.declared.difference.TypeVisit.{TypeVisit}
+use Rattle.nomos_equality.specs.declared.difference.DifferenceSearch.{DifferenceSearch}
 use Rattle.nomos_equality.specs.Differences.{SameForm, DifferAt}
 use Rattle.nomos_equality.specs.Paths.{part_by}
 use Rattle.nomos_equality.specs.mirror.Linking.{Linked}
@@ -36,12 +36,12 @@ pub record IsMet (lists : ProgramLists) (R : TypeId → TypeId → Type 0) (a b 
   pub among : R left right
 
 -- the nodes at a visit
-pub record IsAt (lists : ProgramLists) (visit : Visit) (left right : TypeNode) : Type 0 where
+pub record IsAt (lists : ProgramLists) (visit : TypeVisit) (left right : TypeNode) : Type 0 where
   pub left_there : type_node lists visit.left.0 ≡ Some left
   pub right_there : type_node lists visit.right.0 ≡ Some right
 
 -- the nodes at a visit are there, and are no names
-pub record HasNodes (lists : ProgramLists) (visit : Visit) : Type 0 where
+pub record HasNodes (lists : ProgramLists) (visit : TypeVisit) : Type 0 where
   pub left : TypeNode
   pub right : TypeNode
   pub at : IsAt lists visit left right
@@ -49,27 +49,28 @@ pub record HasNodes (lists : ProgramLists) (visit : Visit) : Type 0 where
   pub right_constructs : IsConstructor right
 
 -- the parts of the nodes at a visit by a hop are met
-abbrev pub Follows : ProgramLists → Visit → Hop → (TypeId → TypeId → Type 0) → Type 0
+abbrev pub Follows : ProgramLists → TypeVisit → Hop → (TypeId → TypeId → Type 0) → Type 0
 Follows lists visit h R =
     (left right : TypeNode) (a b : TypeId) → IsAt lists visit left right → part_by left h ≡ Some a →
     part_by right h ≡ Some b → IsMet lists R a b
 
 -- the parts of the nodes at a visit by each label are met
-abbrev pub FollowsLabels : ProgramLists → Visit → (TypeId → TypeId → Type 0) → Type 0
+abbrev pub FollowsLabels : ProgramLists → TypeVisit → (TypeId → TypeId → Type 0) → Type 0
 FollowsLabels lists visit R = (l : Label) → Follows lists visit (hop.Label l) R
 
 -- the nodes at a visit have the same form
-abbrev pub HasForm : ProgramLists → Visit → Type 0
+abbrev pub HasForm : ProgramLists → TypeVisit → Type 0
 HasForm lists visit = (left right : TypeNode) → IsAt lists visit left right → SameForm left right
 
 -- ---- the search
 
 -- the types are in one class
-abbrev pub Classed : Search → TypeId → TypeId → Type 0
+abbrev pub Classed : DifferenceSearch → TypeId → TypeId → Type 0
 Classed s a b = Linked s.classes a.0 b.0
 
 -- the two types are met by a hop: they were in one class, or are joined and visited
-pub data Meets (lists : ProgramLists) (old : Search) (a b : TypeId) (from : Option Origin) (new : Search) : Type 0 where
+pub data Meets (lists : ProgramLists) (old : DifferenceSearch) (a b : TypeId) (from : Option Origin)
+    (new : DifferenceSearch) : Type 0 where
   known : IsMet lists (Classed old) a b → new.classes ≡ old.classes →
       new.visits.items ≡ old.visits.items → Meets lists old a b from new
   fresh : (left right : TypeId) → IsUnfolding lists a.0 left.0 → IsUnfolding lists b.0 right.0 →
@@ -78,8 +79,8 @@ pub data Meets (lists : ProgramLists) (old : Search) (a b : TypeId) (from : Opti
       Meets lists old a b from new
 
 -- by a hop from a visit two types are met
-pub record GoesOn (lists : ProgramLists) (visits : List Visit) (o : Origin) (a b : TypeId) : Type 0 where
-  pub visit : Visit
+pub record GoesOn (lists : ProgramLists) (visits : List TypeVisit) (o : Origin) (a b : TypeId) : Type 0 where
+  pub visit : TypeVisit
   pub there : slice_get visits o.visit ≡ Some visit
   pub left : TypeNode
   pub right : TypeNode
@@ -88,36 +89,36 @@ pub record GoesOn (lists : ProgramLists) (visits : List Visit) (o : Origin) (a b
   pub right_part : part_by right o.hop ≡ Some b
 
 -- one search goes on to another, by meeting parts of what was visited
-pub data GoesTo (lists : ProgramLists) (old : Search) : Search → Type 0 where
+pub data GoesTo (lists : ProgramLists) (old : DifferenceSearch) : DifferenceSearch → Type 0 where
   stays : GoesTo lists old old
-  meets : (mid new : Search) (o : Origin) (a b : TypeId) → GoesTo lists old mid →
+  meets : (mid new : DifferenceSearch) (o : Origin) (a b : TypeId) → GoesTo lists old mid →
       GoesOn lists mid.visits.items o a b → Meets lists mid a b (Some o) new → GoesTo lists old new
 
 -- the nodes at a visit have the same form, and their parts are met
-pub record IsCompared (lists : ProgramLists) (visit : Visit) (R : TypeId → TypeId → Type 0) : Type 0 where
+pub record IsCompared (lists : ProgramLists) (visit : TypeVisit) (R : TypeId → TypeId → Type 0) : Type 0 where
   pub form : HasForm lists visit
   pub parts : (h : Hop) → Follows lists visit h R
 
 -- the nodes at a visit have different forms
-pub record DifferHere (lists : ProgramLists) (visit : Visit) : Type 0 where
+pub record DifferHere (lists : ProgramLists) (visit : TypeVisit) : Type 0 where
   pub left : TypeNode
   pub right : TypeNode
   pub at : IsAt lists visit left right
   pub differ : ¬ (SameForm left right)
 
 -- what a step says of a visit, by its answer
-abbrev pub ComparesVisit : ProgramLists → Visit → Search → Bool → Type 0
+abbrev pub ComparesVisit : ProgramLists → TypeVisit → DifferenceSearch → Bool → Type 0
 ComparesVisit lists visit s same = MatchBool same (IsCompared lists visit (Classed s)) (DifferHere lists visit)
 
 -- the hops by which a visit was reached from the beginning
-pub data Trail (visits : List Visit) : ℕ → List Hop → Type 0 where
-  begins : (i : ℕ) (v : Visit) → slice_get visits i ≡ Some v → v.from ≡ None → Trail visits i []
-  onward : (i : ℕ) (v : Visit) (o : Origin) (path : List Hop) → slice_get visits i ≡ Some v → v.from ≡ Some o →
+pub data Trail (visits : List TypeVisit) : ℕ → List Hop → Type 0 where
+  begins : (i : ℕ) (v : TypeVisit) → slice_get visits i ≡ Some v → v.from ≡ None → Trail visits i []
+  onward : (i : ℕ) (v : TypeVisit) (o : Origin) (path : List Hop) → slice_get visits i ≡ Some v → v.from ≡ Some o →
       Trail visits o.visit path → Trail visits i (path ++ o.hop ∷ [])
 
 -- each visit was met from an earlier one
-abbrev pub AreInOrder : List Visit → Type 0
-AreInOrder visits = (i : ℕ) (v : Visit) (o : Origin) → slice_get visits i ≡ Some v → v.from ≡ Some o → o.visit < i
+abbrev pub AreInOrder : List TypeVisit → Type 0
+AreInOrder visits = (i : ℕ) (v : TypeVisit) (o : Origin) → slice_get visits i ≡ Some v → v.from ≡ Some o → o.visit < i
 
 -- the two types have equal shapes, or differ at the end of the path
 abbrev pub DecidesShapes : ProgramLists → TypeId → TypeId → Comparison → Type 0

@@ -6,9 +6,9 @@ use Rattle.nomos_ir.specs.declared.ids.TermId.{TermId}
 use Rattle.nomos_ir.specs.declared.lists.ProgramLists.{ProgramLists}
 use Rattle.nomos_ir.specs.Evaluation.{ends, faults, go_on, entered, max_nodes}
 use Rattle.nomos_ir.proofs.EvaluationLaws.{evaluation_from}
-use Rattle.nomos_eval.specs.declared.act.Act.{Act}
-use Rattle.nomos_eval.specs.declared.act.Act.TheVariants as act
-use Rattle.nomos_eval.specs.declared.act.Scope.{Scope}
+use Rattle.nomos_eval.specs.declared.pending.Pending.{Pending}
+use Rattle.nomos_eval.specs.declared.pending.Pending.TheVariants as act
+use Rattle.nomos_eval.specs.declared.pending.TermScope.{TermScope}
 use Rattle.nomos_eval.specs.declared.datum.Datum.{Datum}
 use Rattle.nomos_eval.specs.declared.evaluator.Evaluator.{Evaluator}
 use Rattle.nomos_ir.specs.declared.fault.Fault.{Fault}
@@ -19,7 +19,7 @@ use Rattle.nomos_eval.specs.mirror.Rest.{variables_at, act_work, work}
 use Rattle.nomos_eval.specs.mirror.EvalTable.{datum_value, reach}
 
 -- something other than to enter a term
-abbrev pub IsOther : Act → Type 0
+abbrev pub IsOther : Pending → Type 0
 IsOther (act.Term s t) = ⊥
 IsOther (act.Numbers operator) = Unit {0}
 IsOther act.PutBefore = Unit {0}
@@ -32,7 +32,7 @@ IsOther (act.Open s c) = Unit {0}
 IsOther (act.Enter calls f count) = Unit {0}
 
 -- a term was entered
-pub record IsEnteredAt (program : ProgramLists) (scope : Scope) (t : TermId) (old new : Evaluator) : Type 0 where
+pub record IsEnteredAt (program : ProgramLists) (scope : TermScope) (t : TermId) (old new : Evaluator) : Type 0 where
   pub sound : IsSound new
   pub same : (n : ℕ) → go_on (entered program (evaluation_from program) scope.calls
       (variables_at (scopes_held old) scope) (slice_get program.terms t.0) n) (left_with program old)
@@ -40,17 +40,18 @@ pub record IsEnteredAt (program : ProgramLists) (scope : Scope) (t : TermId) (ol
   pub little : work new.todo ≤ 2 + work old.todo
 
 -- one step
-pub record IsStep (program : ProgramLists) (a : Act) (old : Evaluator) (n : ℕ) (new : Evaluator) (m : ℕ) : Type 0 where
+pub record IsStep (program : ProgramLists) (a : Pending) (old : Evaluator) (n : ℕ) (new : Evaluator) (m : ℕ) : Type
+    0 where
   pub sound : IsSound new
   pub same : left_of program a old n ≡ left program new m
   pub few : m ≤ max_nodes
   pub less : 3 * (max_nodes - m) + work new.todo < 3 * (max_nodes - n) + (act_work a + work old.todo)
 
-abbrev pub StepStops : ProgramLists → Act → Evaluator → ℕ → OrNoMemory Fault → Type 0
+abbrev pub StepStops : ProgramLists → Pending → Evaluator → ℕ → OrNoMemory Fault → Type 0
 StepStops program a old n (stop.Answer f) = left_of program a old n ≡ faults f
 StepStops program a old n stop.NoMemory = Unit {0}
 
-abbrev pub Steps : ProgramLists → Act → Evaluator → ℕ → Evaluator → Result ℕ (OrNoMemory Fault) → Type 0
+abbrev pub Steps : ProgramLists → Pending → Evaluator → ℕ → Evaluator → Result ℕ (OrNoMemory Fault) → Type 0
 Steps program a old n new (Ok m) = IsStep program a old n new m
 Steps program a old n new (Err why) = StepStops program a old n why
 

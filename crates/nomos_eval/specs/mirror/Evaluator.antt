@@ -10,14 +10,14 @@ use Rattle.nomos_ir.specs.declared.term_node.TermNode.{TermNode}
 use Rattle.nomos_ir.specs.Evaluation.{Environment, Counted, ends, faults, go_on, nought, on_numbers, node_evaluation}
 use Rattle.nomos_ir.specs.Value.{Value, ValueList}
 use Rattle.nomos_ir.proofs.EvaluationLaws.{evaluation_from}
-use Rattle.nomos_eval.specs.declared.act.Act.{Act}
-use Rattle.nomos_eval.specs.declared.act.Scope.{Scope}
+use Rattle.nomos_eval.specs.declared.pending.Pending.{Pending}
+use Rattle.nomos_eval.specs.declared.pending.TermScope.{TermScope}
 use Rattle.nomos_eval.specs.declared.datum.Datum.{Datum}
 use Rattle.nomos_eval.specs.declared.datum.Datum.TheVariants as datum
 use Rattle.nomos_eval.specs.declared.evaluator.Evaluator.{Evaluator}
-use Rattle.nomos_eval.specs.declared.numbers.Given.{Given}
-use Rattle.nomos_eval.specs.declared.numbers.Given.TheVariants as give
-use Rattle.nomos_eval.specs.declared.numbers.Operator.{Operator}
+use Rattle.nomos_eval.specs.declared.numbers.Yield.{Yield}
+use Rattle.nomos_eval.specs.declared.numbers.Yield.TheVariants as give
+use Rattle.nomos_eval.specs.declared.numbers.NumberOperator.{NumberOperator}
 use Rattle.nomos_ir.specs.declared.fault.Fault.{Fault}
 use Rattle.nomos_ir.specs.declared.or_no_memory.OrNoMemory.{OrNoMemory}
 use Rattle.nomos_ir.specs.declared.or_no_memory.OrNoMemory.TheVariants as stop
@@ -53,7 +53,7 @@ pub record IsSound (m : Evaluator) : Type 0 where
   pub rises : Rises m.around.env.now m.around.known
 
 -- a variable was looked up in a scope
-pub record IsFound (scopes : List (List (VarId × Datum))) (scope : Scope) (v : VarId) (old : Around)
+pub record IsFound (scopes : List (List (VarId × Datum))) (scope : TermScope) (v : VarId) (old : Around)
     (before : List ValueList) (new : Around) (after : List ValueList) (d : Datum) : Type 0 where
   pub env : new.env.now ≡ old.env.now
   pub grown : (more : List ValueList) × (after ≡ before ++ more)
@@ -63,7 +63,7 @@ pub record IsFound (scopes : List (List (VarId × Datum))) (scope : Scope) (v : 
       (variables_at (record { bound = map (held before) scopes; around = old.env.now }) scope)) nought
 
 -- a node was entered
-pub record IsEntered (scope : Scope) (node : TermNode) (old new : Evaluator) : Type 0 where
+pub record IsEntered (scope : TermScope) (node : TermNode) (old new : Evaluator) : Type 0 where
   pub sound : IsSound new
   pub same : (program : ProgramLists) (n : ℕ)
       → go_on (node_evaluation program (evaluation_from program) scope.calls
@@ -71,22 +71,22 @@ pub record IsEntered (scope : Scope) (node : TermNode) (old new : Evaluator) : T
   pub little : work new.todo ≤ 2 + work old.todo
 
 -- what an act leads to, with what is left after it
-abbrev pub left_of : ProgramLists → Act → Evaluator → Counted
+abbrev pub left_of : ProgramLists → Pending → Evaluator → Counted
 left_of program a m = rest (evaluation_from program) program (scopes_held m) (a ∷ m.todo) (values_found m)
 
 -- an act was done
-pub record IsDone (a : Act) (old new : Evaluator) : Type 0 where
+pub record IsDone (a : Pending) (old new : Evaluator) : Type 0 where
   pub sound : IsSound new
   pub same : (program : ProgramLists) (n : ℕ) → left_of program a old n ≡ left program new n
   pub less : work new.todo < act_work a + work old.todo
 
 -- an act leads to a fault
-abbrev pub Stops : Act → Evaluator → OrNoMemory Fault → Type 0
+abbrev pub Stops : Pending → Evaluator → OrNoMemory Fault → Type 0
 Stops a old (stop.Answer f) = (program : ProgramLists) (n : ℕ) → left_of program a old n ≡ faults f
 Stops a old stop.NoMemory = Unit {0}
 
 -- an act was done, or it leads to a fault
-abbrev pub Does : Act → Evaluator → Evaluator → Result (Unit {0}) (OrNoMemory Fault) → Type 0
+abbrev pub Does : Pending → Evaluator → Evaluator → Result (Unit {0}) (OrNoMemory Fault) → Type 0
 Does a old new (Ok done) = IsDone a old new
 Does a old new (Err why) = Stops a old why
 
@@ -100,13 +100,13 @@ below_top [] = []
 below_top (d ∷ ds) = ds
 
 -- what an operator gave
-abbrev pub IsGiven : Given → Result Datum (OrNoMemory Fault) → Type 0
+abbrev pub IsGiven : Yield → Result Datum (OrNoMemory Fault) → Type 0
 IsGiven (give.Int z) r = r ≡ Ok (datum.Int z)
 IsGiven (give.Bool b) r = r ≡ Ok (datum.Bool b)
 IsGiven (give.Fault f) r = r ≡ Err (stop.Answer f)
 
 -- what an operator gives of two values
-abbrev pub Operated : Operator → Datum → Datum → Result Datum (OrNoMemory Fault) → Type 0
+abbrev pub Operated : NumberOperator → Datum → Datum → Result Datum (OrNoMemory Fault) → Type 0
 Operated operator x y (Ok d) =
     ((lists : List ValueList) (n : ℕ) → on_numbers (operation operator) (datum_value lists x) (datum_value lists y) n
     ≡ ends (datum_value lists d) n) × (reach d ≡ 0)
@@ -116,16 +116,16 @@ Operated operator x y (Err (stop.Answer f)) =
 Operated operator x y (Err stop.NoMemory) = ⊥
 
 -- the same of one program
-pub record IsDoneFor (program : ProgramLists) (a : Act) (old new : Evaluator) : Type 0 where
+pub record IsDoneFor (program : ProgramLists) (a : Pending) (old new : Evaluator) : Type 0 where
   pub sound : IsSound new
   pub same : (n : ℕ) → left_of program a old n ≡ left program new n
   pub less : work new.todo < act_work a + work old.todo
 
-abbrev pub StopsFor : ProgramLists → Act → Evaluator → OrNoMemory Fault → Type 0
+abbrev pub StopsFor : ProgramLists → Pending → Evaluator → OrNoMemory Fault → Type 0
 StopsFor program a old (stop.Answer f) = (n : ℕ) → left_of program a old n ≡ faults f
 StopsFor program a old stop.NoMemory = Unit {0}
 
-abbrev pub DoesFor : ProgramLists → Act → Evaluator → Evaluator → Result (Unit {0}) (OrNoMemory Fault) → Type 0
+abbrev pub DoesFor : ProgramLists → Pending → Evaluator → Evaluator → Result (Unit {0}) (OrNoMemory Fault) → Type 0
 DoesFor program a old new (Ok done) = IsDoneFor program a old new
 DoesFor program a old new (Err why) = StopsFor program a old why
 

@@ -4,9 +4,9 @@ use Rattle.nomos_ir.specs.declared.ids.TermId.{TermId}
 use Rattle.nomos_ir.specs.declared.lists.ProgramLists.{ProgramLists}
 use Rattle.nomos_ir.specs.Evaluation.{Environment, Counted, Evaluator, ends, go_on, nought, on_numbers, put_before, both, either, as_truth, opposite, chosen, taken_apart, bind_parts, body_evaluation}
 use Rattle.nomos_ir.specs.Value.{Value}
-use Rattle.nomos_eval.specs.declared.act.Act.{Act}
-use Rattle.nomos_eval.specs.declared.act.Act.TheVariants as act
-use Rattle.nomos_eval.specs.declared.act.Scope.{Scope}
+use Rattle.nomos_eval.specs.declared.pending.Pending.{Pending}
+use Rattle.nomos_eval.specs.declared.pending.Pending.TheVariants as act
+use Rattle.nomos_eval.specs.declared.pending.TermScope.{TermScope}
 use Rattle.nomos_eval.specs.mirror.Operation.{operation}
 
 -- the topmost value, 0 where there is none
@@ -39,16 +39,16 @@ seen_in zero env = env
 seen_in (suc calls) env = []
 
 -- the variables in a scope
-abbrev pub variables_at : Variables → Scope → Environment
+abbrev pub variables_at : Variables → TermScope → Environment
 variables_at scopes s = slice_index_or scopes.bound s.variables [] ++ seen_in s.calls scopes.around
 
 module _ (from : Evaluator) (lists : ProgramLists) (scopes : Variables) where
   -- a term in its scope
-  abbrev pub follow : Scope → TermId → Counted
+  abbrev pub follow : TermScope → TermId → Counted
   follow s t = from s.calls (variables_at scopes s) t
 
   -- what is left leads to this
-  abbrev pub rest : List Act → List Value → Counted
+  abbrev pub rest : List Pending → List Value → Counted
   rest [] values n = ends (top values) n
   rest (act.Term s t ∷ todo) values n = go_on (follow s t n) (λ v. rest todo (v ∷ values))
   rest (act.Numbers operator ∷ todo) values n =
@@ -71,11 +71,11 @@ module _ (from : Evaluator) (lists : ProgramLists) (scopes : Variables) where
       (λ v. rest todo (v ∷ below_by count values))
 
 -- the terms of arguments, one after another
-abbrev pub argument_acts : Scope → List TermId → List Act
+abbrev pub argument_acts : TermScope → List TermId → List Pending
 argument_acts s values = map (λ t. act.Term s t) values
 
 -- what is left is in a scope that is there
-abbrev pub ScopeIn : ℕ → Act → Type 0
+abbrev pub ScopeIn : ℕ → Pending → Type 0
 ScopeIn count (act.Term s t) = s.variables < count
 ScopeIn count (act.Numbers operator) = Unit {0}
 ScopeIn count act.PutBefore = Unit {0}
@@ -88,7 +88,7 @@ ScopeIn count (act.Open s c) = s.variables < count
 ScopeIn count (act.Enter calls f arguments) = Unit {0}
 
 -- how much follows, beside terms
-abbrev pub act_work : Act → ℕ
+abbrev pub act_work : Pending → ℕ
 act_work (act.Term s t) = 0
 act_work (act.Numbers operator) = 1
 act_work act.PutBefore = 1
@@ -100,6 +100,6 @@ act_work (act.Choose s a b) = 1
 act_work (act.Open s c) = 1
 act_work (act.Enter calls f arguments) = 1
 
-abbrev pub work : List Act → ℕ
+abbrev pub work : List Pending → ℕ
 work [] = 0
 work (a ∷ todo) = act_work a + work todo

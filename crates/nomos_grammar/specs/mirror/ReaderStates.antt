@@ -20,7 +20,7 @@ use Rattle.std.specs.Prelude.{
 }
 use Rattle.std.specs.Str.Parse.{IsNumeral}
 use Rattle.nomos_syntax.specs.Lexeme.{Lexeme, name, reserved, number, symbol, bad, Placed}
-use Rattle.nomos_syntax.specs.Limits.{nesting_limit, node_limit, IsShort}
+use Rattle.nomos_syntax.specs.TextLimits.{nesting_limit, node_limit, IsShort}
 use Rattle.nomos_grammar.specs.declared.offence.GrammarError.{GrammarError}
 use Rattle.nomos_grammar.specs.declared.offence.Which.{Which}
 use Rattle.nomos_grammar.specs.declared.offence.Which.TheVariants as which
@@ -29,7 +29,7 @@ use Rattle.nomos_grammar.specs.declared.part.Terminal.TheVariants as terminal
 use Rattle.nomos_grammar.specs.declared.part.Mark.{Mark}
 use Rattle.nomos_grammar.specs.declared.part.Part.{Part}
 use Rattle.nomos_grammar.specs.declared.part.Part.TheVariants as part
-use Rattle.nomos_grammar.specs.Counting.{Counts, depth, counts, counts_from}
+use Rattle.nomos_grammar.specs.CountedPlaces.{Counts, depth, counts, counts_from}
 use Rattle.nomos_grammar.specs.Producing.{Event, mark, tokens_in, Produces, file}
 use Rattle.nomos_grammar.specs.Offence.{star_limit, IsSmall, Rule, rules, Keeps, KeepsAll, error_of}
 use Rattle.nomos_grammar.specs.mirror.Table.{same}

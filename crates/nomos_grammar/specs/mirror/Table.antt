@@ -22,7 +22,7 @@ use Rattle.nomos_grammar.specs.declared.part.Terminal.TheVariants as terminal
 use Rattle.nomos_grammar.specs.declared.part.Nonterminal.{Nonterminal}
 use Rattle.nomos_grammar.specs.declared.part.Part.{Part}
 use Rattle.nomos_grammar.specs.declared.part.Part.TheVariants as part
-use Rattle.nomos_grammar.specs.declared.table.Alternative.{Alternative}
+use Rattle.nomos_grammar.specs.declared.productions.Alternative.{Alternative}
 use Rattle.nomos_grammar.specs.Grammar.{alternatives}
 
 -- the two are the same

@@ -13,10 +13,10 @@ use Rattle.nomos_types.specs.Amount.{dths}
 use Rattle.nomos_types.specs.Modes.{HasMode}
 use Rattle.nomos_script.specs.declared.item.Start.{Start}
 use Rattle.nomos_legal.specs.Ledger.{LedgerState, account_of, shared_name}
-use Rattle.nomos_legal.specs.Starting.{ArgumentsFit, NameIsFree, is_wanted}
+use Rattle.nomos_legal.specs.LineStarts.{ArgumentsFit, NameIsFree, is_wanted}
 use Rattle.nomos_legal.specs.declared.refusal.Refusal.{Refusal}
 use Rattle.nomos_legal.specs.declared.refusal.Refusal.TheVariants as refusal
-use Rattle.nomos_ledger.specs.declared.resolving.Found.{Found}
+use Rattle.nomos_ledger.specs.declared.resolving.ResolvedLine.{ResolvedLine}
 
 -- what is asked of an answer holds of it, unless memory ran out
 abbrev pub IfAnswered : {X E : Type 0} → Result X (OrNoMemory E) → (Result X E → Type 0) → Type 0
@@ -57,12 +57,12 @@ FindsNames a l start d (Err r) =
     ((shared : List ℕ) → ¬ (ArgumentsFit a l start d shared)) × (r ≡ refusal.BadArguments start.proc)
 
 -- what the account that pays has
-abbrev pub held_by : LedgerState → Found → ℕ
+abbrev pub held_by : LedgerState → ResolvedLine → ℕ
 held_by l found = slice_index l.state.balances found.payer
 
 -- The name is free and the payer has what the declaration needs; or the name is taken; or it is free, and the payer
 -- has less.
-abbrev pub PassesRest : Acceptance → LedgerState → Start → Found → Result (Unit {0}) Refusal → Type 0
+abbrev pub PassesRest : Acceptance → LedgerState → Start → ResolvedLine → Result (Unit {0}) Refusal → Type 0
 PassesRest a l start found (Ok u) =
     NameIsFree l start.contract
     × ((d : ProcDecl) → slice_get a.program.procs found.proc.0 ≡ Some d

@@ -20,10 +20,10 @@ use Rattle.nomos_walk.specs.declared.started.PassedItem.{PassedItem}
 use Rattle.nomos_replay.specs.Answers.{AnswersFrom, Reads, max_bytes}
 use Rattle.nomos_replay.specs.Stand.{Stand, before}
 use Rattle.nomos_replay.specs.Told.{Told, journal_told, nothing_told, told_with}
-use Rattle.nomos_replay.specs.declared.item.Reading.{Reading}
+use Rattle.nomos_replay.specs.declared.told_item.Reading.{Reading}
 use Rattle.nomos_replay.specs.declared.answering.ToldText.{ToldText}
-use Rattle.nomos_replay.specs.declared.source.Source.{Source}
-use Rattle.nomos_replay.specs.mirror.Reading.{Carries}
+use Rattle.nomos_replay.specs.declared.journal_lines.JournalLines.{JournalLines}
+use Rattle.nomos_replay.specs.mirror.JournalReading.{Carries}
 
 -- of a walk the report alone is wanted
 abbrev pub report_alone : WantedTexts
@@ -39,7 +39,8 @@ told_of limit ps l = record { limit = limit; passages = ps; ledger = l }
 
 -- From where the text stood an item has passed: this became of it on the walk, and so it is told.
 pub record PassesOn {M : Type 0} (a : Acceptance) (v : Version) (told : Told) (w : WalkState)
-    (from : List ScriptItem → Stand) (source : Source) (i : ScriptItem) (passed : PassedItem M) (later : Source)
+    (from : List ScriptItem → Stand) (source : JournalLines) (i : ScriptItem) (passed : PassedItem M)
+    (later : JournalLines)
     (after : WalkState) : Type 0 where
   pub passage : Passage
   pub passes : PassesAs w told.ledger i passage passed after
@@ -48,7 +49,8 @@ pub record PassesOn {M : Type 0} (a : Acceptance) (v : Version) (told : Told) (w
 
 -- From where the text stood before these items the first ones were told, and others are left; the walk has come as far.
 pub record ToldUpTo (a : Acceptance) (v : Version) (first : LedgerState) (limit : ℕ) (wanted : WantedTexts)
-    (source : Source) (items done left : List ScriptItem) (later : Reading) (l : LedgerState) (w : WalkState) : Type 0
+    (source : JournalLines) (items done left : List ScriptItem) (later : Reading) (l : LedgerState)
+    (w : WalkState) : Type 0
   where
     pub passages : List Passage
     pub come : HasCome a first limit wanted done later.entries.items passages l w
@@ -65,7 +67,7 @@ pub record IsWholeTold {M : Type 0} (a : Acceptance) (wanted : WantedTexts) (tol
 
 -- All is told, and the text ends.
 pub record AllTold {M : Type 0} (a : Acceptance) (v : Version) (first : LedgerState) (limit : ℕ) (wanted : WantedTexts)
-    (source : Source) (items : List ScriptItem) (whole : ToldText M) : Type 0 where
+    (source : JournalLines) (items : List ScriptItem) (whole : ToldText M) : Type 0 where
   pub told : Told
   pub is : IsWholeTold a wanted told whole
   pub reads : (all : List ScriptItem)

@@ -8,13 +8,13 @@ use Rattle.nomos_forms.specs.declared.row_list.RowList.{RowList}
 use Rattle.nomos_types.specs.Typed.{HasSkeletons}
 use Rattle.nomos_rows.specs.declared.program_rows.RowsError.{RowsError}
 use Rattle.nomos_rows.specs.declared.program_rows.RowsError.TheVariants as error
-use Rattle.nomos_rows.specs.declared.telling.Fault.{Fault}
-use Rattle.nomos_rows.specs.declared.telling.Fault.TheVariants as fault
+use Rattle.nomos_rows.specs.declared.first_fault.DeclarationFault.{DeclarationFault}
+use Rattle.nomos_rows.specs.declared.first_fault.DeclarationFault.TheVariants as fault
 use Rattle.nomos_rows.specs.PartFaults.{IsCause}
 use Rattle.nomos_rows.specs.ProgramRows.{AreProgramRows}
 
 -- the answer that names a fault
-abbrev pub error_of : ℕ → Fault → RowsError
+abbrev pub error_of : ℕ → DeclarationFault → RowsError
 error_of at fault.OtherKind = error.TermType at
 error_of at (fault.Stuck form) = error.ProcType at form
 

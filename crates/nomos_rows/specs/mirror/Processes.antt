@@ -14,9 +14,9 @@ use Rattle.nomos_forms.specs.RowsOf.{AreRowsOf}
 use Rattle.nomos_check.specs.Asking.{IsAsked}
 use Rattle.nomos_check.specs.Reaching.{outset_of, IsFormOf}
 use Rattle.nomos_rows.specs.declared.processes.Gathered.{Gathered}
-use Rattle.nomos_rows.specs.declared.telling.Fault.{Fault}
+use Rattle.nomos_rows.specs.declared.first_fault.DeclarationFault.{DeclarationFault}
 use Rattle.nomos_rows.specs.mirror.Declarations.{DeclarationsFine, IsFirstOfAll}
-use Rattle.nomos_rows.specs.mirror.Telling.{SomeBelow}
+use Rattle.nomos_rows.specs.mirror.FirstFault.{SomeBelow}
 
 -- the process at the place has the form, and asks for the pair
 abbrev pub HasForm : ProgramLists → Form → ℕ → Type 0
@@ -52,6 +52,6 @@ pub record InRows (lists : ProgramLists) (known : Compared) (rows : List Row) : 
   pub are_rows : AreRowsOf (star_count lists) forms pairs rows
 
 -- what is found of the declarations of a program: their rows, or the first fault
-abbrev pub AnswersDeclarations : ProgramLists → Compared → Result RowList (ℕ × Fault) → Type 0
+abbrev pub AnswersDeclarations : ProgramLists → Compared → Result RowList (ℕ × DeclarationFault) → Type 0
 AnswersDeclarations lists known (Ok made) = (made.stars ≡ star_count lists) × InRows lists known made.rows
 AnswersDeclarations lists known (Err a) = IsFirstOfAll lists a

@@ -7,12 +7,12 @@ use Rattle.nomos_ir.specs.declared.type_node.TypeNode.TheVariants as node
 use Rattle.nomos_ir.specs.Nodes.{type_node}
 use Rattle.nomos_equality.specs.Comparing.{Compared}
 use Rattle.nomos_equality.specs.declared.hop.Hop.{Hop}
-use Rattle.nomos_sync.specs.Continuing.{StandAtDown}
-use Rattle.nomos_sync.specs.SyncAnswer.{StraysAt}
+use Rattle.nomos_equality.specs.Continuing.{StandAtDown}
+use Rattle.nomos_equality.specs.SyncAnswer.{StraysAt}
 use Rattle.nomos_types.specs.Equality.{no_amounts}
 use Rattle.nomos_types.specs.Forming.{StandsAtOffset}
 use Rattle.nomos_types.specs.Synchronizing.{IsSynchronizingAt}
-use Rattle.nomos_rows.specs.mirror.Telling.{SomeBelow}
+use Rattle.nomos_rows.specs.mirror.FirstFault.{SomeBelow}
 
 -- the node is an `up`, and the pair stands where it leads back
 pub record StandsBehind (lists : ProgramLists) (t : ℕ) (pair : Amount × Amount) : Type 0 where

@@ -8,7 +8,7 @@ use Rattle.nomos_forms.specs.declared.row_list.RowList.{RowList}
 use Rattle.nomos_simplex.specs.Exchange.{is_large_table}
 use Rattle.nomos_simplex.specs.GoalLine.{line_of}
 use Rattle.nomos_simplex.specs.LeastRun.{PivotsTo, Lowers}
-use Rattle.nomos_simplex.specs.Lowest.{is_below}
+use Rattle.nomos_simplex.specs.LowestVariable.{is_below}
 use Rattle.nomos_simplex.specs.Nearest.{line_at}
 use Rattle.nomos_simplex.specs.Sizes.{IsVariable}
 use Rattle.nomos_simplex.specs.Tables.{bound_of}
@@ -18,10 +18,10 @@ use Rattle.nomos_simplex.specs.declared.choosing.Choice.TheVariants as choice
 use Rattle.nomos_simplex.specs.declared.classes.Class.{Class}
 use Rattle.nomos_simplex.specs.declared.classes.Classed.{Classed}
 use Rattle.nomos_simplex.specs.declared.classes.Classes.{Classes}
-use Rattle.nomos_simplex.specs.declared.table.Line.{Line}
+use Rattle.nomos_simplex.specs.declared.table.TableLine.{TableLine}
 use Rattle.nomos_simplex.specs.declared.table.Table.{Table}
-use Rattle.nomos_simplex.specs.declared.turn.Turn.{Turn}
-use Rattle.nomos_simplex.specs.declared.turn.Turn.TheVariants.{Ends, Goes}
+use Rattle.nomos_simplex.specs.declared.turn.PivotTurn.{PivotTurn}
+use Rattle.nomos_simplex.specs.declared.turn.PivotTurn.TheVariants.{Ends, Goes}
 use Rattle.nomos_simplex.specs.declared.turning.Next.{Next}
 use Rattle.nomos_simplex.specs.declared.turning.Next.TheVariants as next
 
@@ -82,7 +82,7 @@ pub record Fit (rows : RowList) (table : Table) (classes : Classes) : Type 0 whe
   pub cover : (v : ℕ) → IsVariable rows v → IsInOne classes.lines v ⊎ IsInOne classes.columns v
 
 -- lines that are equal but for their variables
-pub record SameNumbers (a b : Line) : Type 0 where
+pub record SameNumbers (a b : TableLine) : Type 0 where
   pub times : a.times ≡ b.times
   pub coefs : a.coefs ≡ b.coefs
 
@@ -98,15 +98,15 @@ pub record StandsFor (rows : RowList) (table : Table) (classes : Classes) (full 
 
 -- ---- the variable that stands for a class
 -- the line with another basic variable
-abbrev pub named : ℕ → Line → Line
+abbrev pub named : ℕ → TableLine → TableLine
 named v line = record line { basic = v }
 
 -- the lowest of a class below its bound, or where none is, the last
-pub record IsLead (rows : RowList) (nonbasic : List ℕ) (class : Class) (line : Line) : Type 0 where
+pub record IsLead (rows : RowList) (nonbasic : List ℕ) (class : Class) (line : TableLine) : Type 0 where
   pub before : (v : ℕ) → class.first ≤ v → v < line.basic → is_below rows nonbasic (named v line) ≡ false
   pub or_last : (is_below rows nonbasic line ≡ true) ⊎ (line.basic ≡ class.last)
 
-abbrev pub AreLeads : RowList → List ℕ → List Class → List Line → Type 0
+abbrev pub AreLeads : RowList → List ℕ → List Class → List TableLine → Type 0
 AreLeads rows nonbasic classes lines = (i : ℕ) → i < length lines →
     IsLead rows nonbasic (class_at classes i) (line_at lines i)
 
@@ -146,7 +146,7 @@ classes_exchanged i j classes = record {
 }
 
 -- lines have the same numbers as before, and variables of their classes
-pub record AreRenamed (classes : List Class) (before after : List Line) : Type 0 where
+pub record AreRenamed (classes : List Class) (before after : List TableLine) : Type 0 where
   pub long : length after ≡ length before
   pub same : (i : ℕ) → i < length before → SameNumbers (line_at after i) (line_at before i)
   pub is_in : (i : ℕ) → i < length before → IsIn (class_at classes i) (line_at after i).basic
@@ -170,7 +170,7 @@ IsChosen rows table classes (Some (choice.Column j)) =
 
 -- ---- tables by classes
 -- at first the line of a class is that of its first row
-abbrev pub line_of_class : RowList → Class → Line
+abbrev pub line_of_class : RowList → Class → TableLine
 line_of_class rows class = record { times = pos 1; basic = class.first; coefs = coefs_of rows class.first }
 
 abbrev pub table_of_classes : RowList → List Class → Table
@@ -187,7 +187,8 @@ stepped j table = record table { nonbasic = slice_set table.nonbasic j (column_a
 -- a table that one of the runs comes to
 pub data IsReached (rows : RowList) (full : Table) : Type 0 where
   by_pivots : (pivots : ℕ) → PivotsTo rows pivots full → IsReached rows full
-  by_lowering : (goal : Form) (pivots : ℕ) (line : Line) → IsForm rows.stars goal → Lowers rows goal pivots full line →
+  by_lowering : (goal : Form) (pivots : ℕ) (line : TableLine) → IsForm rows.stars goal
+      → Lowers rows goal pivots full line →
       IsReached rows full
 
 -- what is kept of one
@@ -197,6 +198,6 @@ pub record IsKept (rows : RowList) (classed : Classed) : Type 0 where
   pub shows : ShowsFull rows classed full
 
 -- what is kept of the table at which the run goes on, or its end
-abbrev pub IsNextOf : RowList → Turn → Next → Type 0
+abbrev pub IsNextOf : RowList → PivotTurn → Next → Type 0
 IsNextOf rows turn (next.Ends answer) = Ends answer ≡ turn
 IsNextOf rows turn (next.Goes classed) = (full : Table) × (Goes full ≡ turn) × ShowsFull rows classed full

@@ -6,20 +6,20 @@ use Rattle.nomos_forms.specs.declared.row_list.RowList.{RowList}
 use Rattle.nomos_simplex.specs.Exchange.{coef_at}
 use Rattle.nomos_simplex.specs.Exits.{fractions, found_or_large}
 use Rattle.nomos_simplex.specs.LeastRun.{PivotsTo, EndsFound, Lowers, LeastRun, is_large_with}
-use Rattle.nomos_simplex.specs.Lowest.{leaving}
+use Rattle.nomos_simplex.specs.LowestVariable.{leaving}
 use Rattle.nomos_simplex.specs.Nearest.{line_at}
 use Rattle.nomos_simplex.specs.PivotRun.{answer_to}
 use Rattle.nomos_simplex.specs.Sizes.{IsLine}
 use Rattle.nomos_simplex.specs.declared.classes.Classed.{Classed}
-use Rattle.nomos_simplex.specs.declared.keeping.Kept.{Kept}
+use Rattle.nomos_simplex.specs.declared.keeping.KeptTable.{KeptTable}
 use Rattle.nomos_simplex.specs.declared.lowering.Aimed.{Aimed}
 use Rattle.nomos_simplex.specs.declared.lowering.LeastTurn.{LeastTurn}
 use Rattle.nomos_simplex.specs.declared.lowering.LeastTurn.TheVariants as next
 use Rattle.nomos_simplex.specs.declared.solved.Solved.{Solved}
 use Rattle.nomos_simplex.specs.declared.solved.Solved.TheVariants as solved
-use Rattle.nomos_simplex.specs.declared.solving.Sought.{Sought}
-use Rattle.nomos_simplex.specs.declared.solving.Sought.TheVariants as sought
-use Rattle.nomos_simplex.specs.declared.table.Line.{Line}
+use Rattle.nomos_simplex.specs.declared.solving.SolvingEnd.{SolvingEnd}
+use Rattle.nomos_simplex.specs.declared.solving.SolvingEnd.TheVariants as sought
+use Rattle.nomos_simplex.specs.declared.table.TableLine.{TableLine}
 use Rattle.nomos_simplex.specs.declared.table.Table.{Table}
 use Rattle.nomos_simplex.specs.mirror.Classes.{ShowsFull}
 
@@ -38,7 +38,7 @@ abbrev pub IsReach : ℕ × ℕ → Type 0
 IsReach f = (0 < f.1) × (f.1 < 2 ^ 62)
 
 -- the lines fit the table, and each has a number beside it
-pub record KeptFits (kept : Kept) : Type 0 where
+pub record KeptFits (kept : KeptTable) : Type 0 where
   pub over : length kept.over ≡ length kept.table.lines
   pub lines : All (IsLine (length kept.table.nonbasic)) kept.table.lines
 
@@ -63,7 +63,7 @@ IsNotFound (solved.Refuted verdict) = Unit {0}
 IsNotFound (solved.Unsolved stop) = Unit {0}
 
 -- where the pivot run comes to
-abbrev pub IsSought : RowList → Sought → Type 0
+abbrev pub IsSought : RowList → SolvingEnd → Type 0
 IsSought rows (sought.Stands classed pivots) = StandsAt rows classed pivots
 IsSought rows (sought.Ends answer) = (answer ≡ answer_to rows) × IsNotFound answer
 
@@ -85,7 +85,7 @@ IsNext rows goal pivots (next.Ends answer) = LeastRun rows goal answer
 IsNext rows goal pivots (next.Goes after) = LowersTo rows goal (pivots + 1) after × (pivots < 2000)
 
 -- what is kept of a table, and the goal's line, unless a number is too large
-abbrev pub IsAimedOrLarge : RowList → Table → Line → Option Aimed → Type 0
+abbrev pub IsAimedOrLarge : RowList → Table → TableLine → Option Aimed → Type 0
 IsAimedOrLarge rows full line (Some aimed) =
     ShowsFull rows aimed.classed full × (aimed.line ≡ line) × (is_large_with full line ≡ false)
 IsAimedOrLarge rows full line None = is_large_with full line ≡ true

@@ -12,10 +12,10 @@ use Rattle.nomos_machine.specs.declared.object.PotentialList.{PotentialList}
 use Rattle.nomos_machine.specs.declared.object.Process.{Process}
 use Rattle.nomos_types.specs.Acceptance.{Acceptance}
 use Rattle.nomos_snapshot.specs.Loading.{Admits, IsWorth}
-use Rattle.nomos_snapshot.specs.Told.{process_told}
+use Rattle.nomos_snapshot.specs.ToldLines.{process_told}
 use Rattle.nomos_snapshot.specs.declared.error.LoadError.{LoadError}
-use Rattle.nomos_snapshot.specs.declared.told.ToldObject.{ToldObject}
-use Rattle.nomos_snapshot.specs.declared.told.ToldObject.TheVariants as told_object
+use Rattle.nomos_snapshot.specs.declared.told_lines.ToldObject.{ToldObject}
+use Rattle.nomos_snapshot.specs.declared.told_lines.ToldObject.TheVariants as told_object
 
 -- ---- lists that no machine keeps
 

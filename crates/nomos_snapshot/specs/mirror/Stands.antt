@@ -2,14 +2,14 @@
 use Rattle.std.specs.Prelude.{◌≡◌, ◌≢◌, ℕ, List, Option, MatchOption, Result}
 use Rattle.nomos_legal.specs.Ledger.{LedgerState}
 use Rattle.nomos_types.specs.Acceptance.{Acceptance}
-use Rattle.nomos_snapshot.specs.Gathering.{Gathered, Goes, Stand, at_head, at_next, at_spent, at_unit, behind}
+use Rattle.nomos_snapshot.specs.GatheredLines.{Gathered, Goes, Stand, at_head, at_next, at_spent, at_unit, behind}
 use Rattle.nomos_snapshot.specs.Line.{IsLine, line_text}
-use Rattle.nomos_snapshot.specs.Reading.{Reads}
+use Rattle.nomos_snapshot.specs.SnapshotReading.{Reads}
 use Rattle.nomos_snapshot.specs.declared.gathered.Gathering.{Gathering}
 use Rattle.nomos_snapshot.specs.declared.line.SnapshotLine.{SnapshotLine}
 use Rattle.nomos_snapshot.specs.declared.stand.TextStand.{TextStand}
 use Rattle.nomos_snapshot.specs.declared.stand.TextStand.TheVariants as stand
-use Rattle.nomos_snapshot.specs.Told.{CannotGo, IsKept, told}
+use Rattle.nomos_snapshot.specs.ToldLines.{CannotGo, IsKept, told}
 
 abbrev pub stand_told : TextStand → Stand
 stand_told stand.Head = at_head

@@ -12,7 +12,7 @@ use Rattle.nomos_surface.specs.declared.steps.ChanAt.TheVariants as chan
 use Rattle.nomos_surface.specs.declared.value_type.ValueType.{ValueType}
 use Rattle.nomos_surface.specs.Grammatical.{Each}
 use Rattle.nomos_surface.specs.Tree.{TypeTree, one, named, choice, channel, valued, paying, going_up, going_down, grouped, BranchTrees, no_branches, branch, TermTree, number, truth, me, variable, application, no_items, binary, negation, choosing, matching, parenthesized, TermTrees, no_terms, term, ArgTrees, StepTree, label, send, recv, put, taking, pay, getting, work, wait, accept, detach, acquire, release, spawn, binding, empty_list, longer_list, emit, CodeTree, code, LastTree, close, fwd, calling, code_if, case, code_match, ArmTrees, no_arms, arm, ChanParTree, ParTrees, DeclTree, definition, function, process, transaction}
-use Rattle.nomos_syntax.specs.Limits.{nesting_limit}
+use Rattle.nomos_syntax.specs.TextLimits.{nesting_limit}
 
 abbrev pub ShallowName : NameAt → Type 0
 ShallowName n = Unit {0}

@@ -6,15 +6,15 @@ use Rattle.nomos_legal.specs.Ending.{IsAllowed}
 use Rattle.nomos_legal.specs.StandsFor.{WorldStandsFor}
 use Rattle.nomos_legal.specs.World.{WorldState}
 use Rattle.nomos_legal.specs.declared.journal.End.{End}
-use Rattle.nomos_tale.specs.declared.choosing.Choice.{Choice}
-use Rattle.nomos_tale.specs.declared.choosing.Choice.TheVariants as choice
+use Rattle.nomos_tale.specs.declared.next_firing.NextStep.{NextStep}
+use Rattle.nomos_tale.specs.declared.next_firing.NextStep.TheVariants as choice
 
 -- this end is allowed wherever one more firing is
 abbrev pub EndsHere : Acceptance → WorldState → End → Type 0
 EndsHere a w e = (limit : ℕ) → length w.firings < limit → IsAllowed a w.state (length w.firings) limit e
 
 -- a process that is ready is chosen, or an end that is allowed
-abbrev pub IsChoice : Acceptance → WorldState → Choice → Type 0
+abbrev pub IsChoice : Acceptance → WorldState → NextStep → Type 0
 IsChoice a w (choice.Fires pid) = IsReady a w.state pid
 IsChoice a w (choice.Ends e) = EndsHere a w e
 

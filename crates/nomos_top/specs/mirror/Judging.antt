@@ -2,9 +2,9 @@
 use Rattle.std.specs.Prelude.{◌≡◌, ℕ, List, Option, Some, None, Result, Ok, Err, Vec, codes}
 use Rattle.std.specs.Global.{Global}
 use Rattle.nomos_accept.specs.AcceptedText.{IsAcceptedAs, IsRefused}
-use Rattle.nomos_accept.specs.declared.refusal.AcceptError.{AcceptError}
-use Rattle.nomos_accept.specs.declared.refusal.AcceptError.TheVariants as error
-use Rattle.nomos_due.specs.Lines.{no_entries, read_fault_line}
+use Rattle.nomos_accept.specs.declared.why.AcceptError.{AcceptError}
+use Rattle.nomos_accept.specs.declared.why.AcceptError.TheVariants as error
+use Rattle.nomos_due.specs.DueLines.{no_entries, read_fault_line}
 use Rattle.nomos_due.specs.Outside.{HasText, HaveRisen, SourceState, input_of}
 use Rattle.nomos_due.specs.Sources.{IsPoolDueFor, IsPoolPartFor, kept_text}
 use Rattle.nomos_due.specs.Written.{HasWrittenOut}
@@ -20,8 +20,8 @@ use Rattle.nomos_top.specs.Seen.{Call, Texts}
 use Rattle.nomos_top.specs.Outcome.{Inputs, Outcome, IsTaskDue, IsTaskPart, IsDue, IsPart, bare}
 use Rattle.nomos_top.specs.Refusal.{refusal, unsolved_line}
 use Rattle.nomos_top.specs.TaskRuns.{HasStopped, HasLeastStopped}
-use Rattle.nomos_top.specs.declared.due.CallDue.{CallDue}
-use Rattle.nomos_top.specs.declared.due.DoneSoFar.{DoneSoFar}
+use Rattle.nomos_top.specs.declared.call_due.CallDue.{CallDue}
+use Rattle.nomos_top.specs.declared.call_due.DoneSoFar.{DoneSoFar}
 use Rattle.nomos_top.specs.declared.judging.Unaccepted.{Unaccepted}
 use Rattle.nomos_top.specs.declared.judging.Unaccepted.TheVariants as unaccepted
 use Rattle.nomos_types.specs.Acceptance.{Acceptance}

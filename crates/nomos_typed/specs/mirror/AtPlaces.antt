@@ -21,7 +21,7 @@ use Rattle.nomos_types.specs.Acceptance.{Acceptance}
 use Rattle.nomos_types.specs.Judgement.{count_one}
 use Rattle.std.specs.Option.{option_or}
 use Rattle.nomos_typed.specs.declared.told.Told.{Told}
-use Rattle.nomos_typed.specs.mirror.Told.{NameFits}
+use Rattle.nomos_typed.specs.mirror.ComparedWith.{NameFits}
 
 -- ---- which places are wanted
 

@@ -7,7 +7,7 @@ use Rattle.nomos_machine.specs.State.{State}
 use Rattle.nomos_machine.specs.declared.rest.Rest.{Rest}
 use Rattle.nomos_machine.specs.declared.rest.Rest.TheVariants as rest
 use Rattle.nomos_monitor.specs.TalkCourse.{HoldsTalk, PartyTurn, TalkGoesOn, TalkReply}
-use Rattle.nomos_monitor.specs.declared.refusal.TalkRefusal.{TalkRefusal}
+use Rattle.nomos_monitor.specs.declared.talk_refusal.TalkRefusal.{TalkRefusal}
 use Rattle.nomos_script.specs.declared.talk_line.TalkLine.{TalkLine}
 use Rattle.nomos_visit.specs.TalkText.{refused_text, replies_text, stopped_text, talk_line_text, turns_of}
 use Rattle.nomos_visit.specs.TalkHeld.{LeavesNumbers}

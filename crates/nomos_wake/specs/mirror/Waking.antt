@@ -9,7 +9,7 @@ use Rattle.nomos_wake.specs.Covering.{HasProxy, IsFollowed, IsNoted, MayBeReady}
 use Rattle.nomos_wake.specs.declared.awake.Awake.{Awake}
 use Rattle.nomos_wake.specs.declared.touch.Incoming.{Incoming}
 use Rattle.nomos_wake.specs.declared.waking.Foreseen.{Foreseen}
-use Rattle.nomos_wake.specs.mirror.Telling.{Tells}
+use Rattle.nomos_wake.specs.mirror.ToldSets.{Tells}
 
 -- who may read what is heard may be ready
 abbrev pub WakesHeard : State → Option Incoming → Awake → Type 0

@@ -2,7 +2,7 @@ use Rattle.std.proofs.Common.{Err, sym, subst, ◌∙◌}
 use Rattle.nomos_accept.proofs.JudgingLaws.{found-is_accepted, accepted-answer, refuted-answer, unsolved-answer}
 use Rattle.nomos_accept.proofs.accepting.judge.Goals as goal
 use Rattle.nomos_accept.specs.AcceptedText.{Answers, IsAcceptedAs}
-use Rattle.nomos_accept.specs.declared.refusal.AcceptError.{AcceptError}
+use Rattle.nomos_accept.specs.declared.why.AcceptError.{AcceptError}
 
 pub returns-in-Ok-Found : goal.returns-in-Ok-Found
 returns-in-Ok-Found c = λ text read.

@@ -1,7 +1,7 @@
 use Rattle.std.proofs.Common.{Err, subst}
 use Rattle.nomos_accept.proofs.RefusalLemmas.{name-never, cost-never}
 use Rattle.nomos_accept.proofs.causes.of_names.Goals as goal
-use Rattle.nomos_program.specs.Elaborated.{Answers}
+use Rattle.nomos_elaborate.specs.Elaborated.{Answers}
 use Rattle.nomos_elaborate.specs.declared.elab_error.ElabError.{ElabError}
 
 pub returns-in-Name : goal.returns-in-Name

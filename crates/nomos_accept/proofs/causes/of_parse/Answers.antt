@@ -1,8 +1,8 @@
 use Rattle.std.proofs.Common.{Err, subst}
 use Rattle.nomos_accept.proofs.RefusalLemmas.{unread-never}
 use Rattle.nomos_accept.proofs.causes.of_parse.Goals as goal
-use Rattle.nomos_parse.specs.Parsing.{AnswersParse}
-use Rattle.nomos_parse.specs.declared.parse.ParseError.{ParseError}
+use Rattle.nomos_reader.specs.Parsing.{AnswersParse}
+use Rattle.nomos_reader.specs.declared.parse.ParseError.{ParseError}
 
 pub returns-in-TooLong : goal.returns-in-TooLong
 returns-in-TooLong c = λ text answer.

@@ -1,5 +1,5 @@
 use Rattle.nomos_accept.proofs.preparing.read.Goals as goal
-use Rattle.nomos_program.proofs.NestingLaws.{reads-nested}
+use Rattle.nomos_elaborate.proofs.NestingLaws.{reads-nested}
 use Rattle.nomos_surface.specs.FileView.{file_tree}
 
 pub elaborate-requires : goal.elaborate-requires

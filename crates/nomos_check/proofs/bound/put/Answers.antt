@@ -1,6 +1,6 @@
 use Rattle.std.proofs.Common.{List, set, subst, ap, ◌∙◌}
 use Rattle.nomos_ir.specs.declared.ids.VarId.{VarId}
-use Rattle.nomos_check.specs.mirror.Places.{StandsAt, PartsAt}
+use Rattle.nomos_check.specs.mirror.VariablePlaces.{StandsAt, PartsAt}
 use Rattle.nomos_check.proofs.PlaceLemmas.{place-set, place-insert}
 use Rattle.nomos_check.proofs.bound.put.Goals as goal
 

@@ -1,6 +1,6 @@
 use Rattle.std.proofs.Common.{List, subst, ◌∙◌}
 use Rattle.nomos_ir.specs.declared.ids.VarId.{VarId}
-use Rattle.nomos_check.specs.mirror.Places.{StandsAt, PartsAt}
+use Rattle.nomos_check.specs.mirror.VariablePlaces.{StandsAt, PartsAt}
 use Rattle.nomos_check.proofs.PlaceLemmas.{place-remove, place-absent}
 use Rattle.nomos_check.proofs.bound.take_away.Goals as goal
 

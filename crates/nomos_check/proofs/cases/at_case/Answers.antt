@@ -2,7 +2,7 @@ use Rattle.std.proofs.Common.{List, Global, MatchOption, Option, Vec, refl, sym,
 use Rattle.nomos_ir.specs.declared.type_node.Branch.{Branch}
 use Rattle.nomos_ir.specs.declared.type_node.TypeNode.TheVariants as node
 use Rattle.nomos_types.specs.Premises.{HasType, by_side}
-use Rattle.nomos_check.specs.declared.standing.Way.{Way}
+use Rattle.nomos_check.specs.declared.standing.WayOn.{WayOn}
 use Rattle.nomos_check.specs.mirror.Cases.{AreWays, HasOddArm}
 use Rattle.nomos_check.specs.mirror.StandingData.{shape_of}
 use Rattle.nomos_check.proofs.CaseSteps.{arm-stuck, branch-stuck, case-leads}
@@ -35,7 +35,7 @@ returns-in-Some-2 c =
     in
     let typed = subst IsChoice (sym c.as_slice-branches.ensures) c.in-Some.ensures in
     let covered = c.in_ok-all_have_arms.ensures.0 c.if-not-branch.false in
-    let Found : Option (Vec Way Global) → Type 0 =
+    let Found : Option (Vec WayOn Global) → Type 0 =
     λ o. MatchOption o (HasOddArm bs c.args.arms.now) (λ ways. AreWays c.args.c bs c.args.arms.now ways.items)
     in
     let ways = subst Found c.in-Some-2.is c.in_ok-ways.ensures in (
@@ -53,7 +53,7 @@ returns-in-None-2 c =
     λ cs. HasType lists (shape_of s) c.args.c (by_side c.args.c (node.With cs) (node.Plus cs))
     in
     let typed = subst IsChoice (sym c.as_slice-branches.ensures) c.in-Some.ensures in
-    let Found : Option (Vec Way Global) → Type 0 =
+    let Found : Option (Vec WayOn Global) → Type 0 =
     λ o. MatchOption o (HasOddArm bs c.args.arms.now) (λ ways. AreWays c.args.c bs c.args.arms.now ways.items)
     in
     let odd = subst Found c.in-None-2.is c.in_ok-ways.ensures in

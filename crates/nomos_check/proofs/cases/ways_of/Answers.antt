@@ -2,14 +2,14 @@ use Rattle.std.proofs.Common.{[], subst, sym, arith}
 use Rattle.std.proofs.lemmas.List.{get_or_default, take_all}
 use Rattle.std.proofs.Common.{List}
 use Rattle.nomos_ir.specs.declared.code_node.Arm.{Arm}
-use Rattle.nomos_check.specs.declared.standing.Way.{Way}
+use Rattle.nomos_check.specs.declared.standing.WayOn.{WayOn}
 use Rattle.nomos_check.specs.mirror.Cases.{AreWays, none}
 use Rattle.nomos_check.proofs.CaseSteps.{ways-step}
 use Rattle.nomos_check.proofs.cases.ways_of.Goals as goal
 
 pub loop-a-init : goal.loop-a-init
 loop-a-init c =
-    subst (λ (ws : List Way). AreWays c.args.c c.args.branches.now [] ws) (sym c.new-ways.ensures.items) none
+    subst (λ (ws : List WayOn). AreWays c.args.c c.args.branches.now [] ws) (sym c.new-ways.ensures.items) none
 
 pub loop-a-preserved : goal.loop-a-preserved
 loop-a-preserved c =

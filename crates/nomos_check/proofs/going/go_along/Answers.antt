@@ -5,7 +5,7 @@ use Rattle.nomos_check.proofs.StrideLemmas.{stride-ends, stride-stops, stride-ne
 use Rattle.nomos_check.proofs.WithinLemmas.{within-on_way}
 use Rattle.nomos_check.specs.declared.asked.Asked.{Asked}
 use Rattle.nomos_check.specs.declared.standing.Forks.{Forks}
-use Rattle.nomos_check.specs.declared.walk.Walk.{Walk}
+use Rattle.nomos_check.specs.declared.code_walk.CodeWalk.{CodeWalk}
 use Rattle.nomos_check.specs.mirror.StandingData.{IsReady, KeepsCompared}
 use Rattle.nomos_check.specs.mirror.Walking.{Goes}
 use Rattle.nomos_check.proofs.going.go_along.Goals as goal
@@ -36,7 +36,7 @@ returns-in-Stuck-clause-goes c =
     c.loop-at.walk c.note.new.self c.step.new.asked c.loop-at.invariant.going c.in_ok-note.ensures.notes
     c.loop-at.invariant.on_way c.in_ok-step.field-0 c.in_ok-step.ensures.tells c.in_ok-step.ensures.asks
     c.in-Stuck.is c.code.result.now c.code.ensures in
-    subst (λ (w : Walk). Goes lists (star_count lists) c.args.now c.args.walk.now w) (sym c.stop.ensures) goes
+    subst (λ (w : CodeWalk). Goes lists (star_count lists) c.args.now c.args.walk.now w) (sym c.stop.ensures) goes
 
 pub returns-in-Done-clause-goes : goal.returns-in-Done-clause-goes
 returns-in-Done-clause-goes c =
@@ -113,7 +113,7 @@ returns-in-Branches-clause-kept c = λ known front. c.step.ensures.kept known
 
 pub returns-in-Stuck-clause-kept : goal.returns-in-Stuck-clause-kept
 returns-in-Stuck-clause-kept c =
-    subst (λ (w : Walk). KeepsCompared c.args.walk.now.asked w.asked) (sym c.stop.ensures)
+    subst (λ (w : CodeWalk). KeepsCompared c.args.walk.now.asked w.asked) (sym c.stop.ensures)
     (λ known front. c.step.ensures.kept known
     (subst (λ (a : Asked). KeepsCompared c.args.walk.now.asked a) (sym c.note.ensures.asked)
     c.loop-at.invariant.kept known front))

@@ -3,7 +3,7 @@ use Rattle.std.proofs.lemmas.List.Elements.{Contains-push}
 use Rattle.std.proofs.lemmas.Result.{on_ok_weaker}
 use Rattle.nomos_ir.specs.Amounts.{star_count}
 use Rattle.nomos_check.specs.declared.standing.Forks.{Forks}
-use Rattle.nomos_check.specs.declared.standing.Way.{Way}
+use Rattle.nomos_check.specs.declared.standing.WayOn.{WayOn}
 use Rattle.nomos_check.specs.mirror.Walking.{Goes}
 use Rattle.nomos_check.proofs.WalkingLemmas.{walks-none, walks-way, way-light, way-room, way-on_way}
 use Rattle.nomos_check.proofs.going.take_way.Goals as goal
@@ -13,7 +13,7 @@ returns-in-None-clause-walks c =
     let ways = c.args.forks.ways.items in
     let e = c.in-None.ensures in
     let none : ways ≡ [] =
-    e.items ∙ ap (λ (l : List Way). l ++ []) (e.rest ∙ ap (λ (n : ℕ). take (n - 1) ways) e.cases.0)
+    e.items ∙ ap (λ (l : List WayOn). l ++ []) (e.rest ∙ ap (λ (n : ℕ). take (n - 1) ways) e.cases.0)
     in
     walks-none c.args.program.now (star_count c.args.program.now) c.args.forks c.args.walk.now.todo c.args.walk.now none
 
@@ -23,7 +23,7 @@ along-requires c =
     let way = c.in-Some.way in
     let all : f.ways.items ≡ c.pop.new.self.items ++ way ∷ [] = c.in-Some.ensures.items in
     way-room f c.args.walk.now.todo c.args.walk.now c.requires.formed c.requires.walk way
-    (subst (λ (l : List Way). Contains l way) (sym all) (Contains-push c.pop.new.self.items way))
+    (subst (λ (l : List WayOn). Contains l way) (sym all) (Contains-push c.pop.new.self.items way))
 
 pub go_along-requires-clause-on_way : goal.go_along-requires-clause-on_way
 go_along-requires-clause-on_way c =

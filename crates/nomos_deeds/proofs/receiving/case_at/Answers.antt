@@ -1,6 +1,6 @@
 use Rattle.std.proofs.Common.{◌∙◌, sym, option_and_then}
 use Rattle.nomos_machine.specs.Deeds.{arm_for}
-use Rattle.nomos_deeds.specs.Seen.{seen_label}
+use Rattle.nomos_deeds.specs.SeenObjects.{seen_label}
 use Rattle.nomos_deeds.specs.declared.act.Into.TheVariants as into
 use Rattle.nomos_deeds.proofs.ReceivingLemmas.{answered, case-same}
 use Rattle.nomos_deeds.proofs.receiving.case_at.Goals as goal

@@ -1,5 +1,5 @@
 use Rattle.std.proofs.Common.{◌∙◌, sym, cond, Some, None}
-use Rattle.nomos_deeds.specs.Seen.{brings_potential}
+use Rattle.nomos_deeds.specs.SeenObjects.{brings_potential}
 use Rattle.nomos_deeds.specs.declared.act.Into.TheVariants as into
 use Rattle.nomos_deeds.proofs.ReceivingLemmas.{answered, get-same}
 use Rattle.nomos_deeds.proofs.receiving.get_at.Goals as goal

@@ -1,6 +1,6 @@
 use Rattle.std.proofs.Common.{◌∙◌, sym}
 use Rattle.std.specs.Option.{option_map}
-use Rattle.nomos_deeds.specs.Seen.{seen_channel}
+use Rattle.nomos_deeds.specs.SeenObjects.{seen_channel}
 use Rattle.nomos_deeds.specs.declared.act.Into.TheVariants as into
 use Rattle.nomos_deeds.proofs.ReceivingLemmas.{answered, recv-same}
 use Rattle.nomos_deeds.proofs.receiving.recv_at.Goals as goal

@@ -1,5 +1,5 @@
 use Rattle.std.proofs.Common.{◌∙◌, sym, cond, Some, None}
-use Rattle.nomos_deeds.specs.Seen.{brings_value}
+use Rattle.nomos_deeds.specs.SeenObjects.{brings_value}
 use Rattle.nomos_deeds.specs.declared.act.Into.TheVariants as into
 use Rattle.nomos_deeds.proofs.ReceivingLemmas.{answered, take-same}
 use Rattle.nomos_deeds.proofs.receiving.take_at.Goals as goal

@@ -1,5 +1,5 @@
 use Rattle.nomos_due.specs.Outside.{input_of, source_state}
-use Rattle.nomos_due.specs.Runs.{usual_orders}
+use Rattle.nomos_due.specs.RunsDue.{usual_orders}
 use Rattle.nomos_due.proofs.DueLemmas.{part-none, part-run}
 use Rattle.nomos_due.proofs.TalkDueLemmas.{due-talk, talk-no_script}
 use Rattle.nomos_due.proofs.SourceLemmas.{if_err-map, if_ok-map, told-same}

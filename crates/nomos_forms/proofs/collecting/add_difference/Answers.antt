@@ -5,7 +5,7 @@ use Rattle.std.proofs.lemmas.List.Elements.{All-cons}
 use Rattle.nomos_forms.specs.Bounds.{IsSmall, IsRow}
 use Rattle.nomos_forms.specs.RowsOf.{difference_row}
 use Rattle.nomos_forms.specs.RowGroups.{row_of, rows_in}
-use Rattle.nomos_forms.specs.mirror.Counts.{counts}
+use Rattle.nomos_forms.specs.mirror.StarCounts.{counts}
 use Rattle.nomos_forms.specs.mirror.SameRows.{HasSame}
 use Rattle.nomos_forms.proofs.CollectLemmas.{all-same, difference-small}
 use Rattle.nomos_forms.proofs.collecting.add_difference.Goals as goal

@@ -4,7 +4,7 @@ use Rattle.std.proofs.lemmas.List.{append_assoc, map-append}
 use Rattle.std.proofs.lemmas.List.FromFn.{map-range_with_len_more}
 use Rattle.nomos_forms.specs.RowGroups.{row_of, rows_in}
 use Rattle.nomos_forms.specs.declared.row_group.RowGroup.{RowGroup}
-use Rattle.nomos_forms.specs.mirror.Counts.{counts}
+use Rattle.nomos_forms.specs.mirror.StarCounts.{counts}
 use Rattle.nomos_forms.specs.mirror.Joining.{coefs_of}
 use Rattle.nomos_forms.proofs.GroupLemmas.{rows-push}
 use Rattle.nomos_forms.proofs.counts.add_counts_with.Goals as goal

@@ -1,7 +1,7 @@
 use Rattle.std.proofs.Common.{◌≡◌, ◌++◌, [], map}
 use Rattle.std.specs.List.{range_with_len}
 use Rattle.nomos_forms.specs.RowGroups.{rows_in}
-use Rattle.nomos_forms.specs.mirror.Counts.{counts}
+use Rattle.nomos_forms.specs.mirror.StarCounts.{counts}
 use Rattle.nomos_forms.specs.mirror.Joining.{coefs_of}
 use Rattle.nomos_forms.proofs.counts.add_counts_with.Given as goal
 

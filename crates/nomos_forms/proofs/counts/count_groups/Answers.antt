@@ -1,5 +1,5 @@
 use Rattle.std.proofs.Common.{◌∙◌, ◌++◌, ap}
-use Rattle.nomos_forms.specs.mirror.Counts.{counts_with}
+use Rattle.nomos_forms.specs.mirror.StarCounts.{counts_with}
 use Rattle.nomos_forms.proofs.CountLemmas.{blocks-more}
 use Rattle.nomos_forms.proofs.counts.count_groups.Goals as goal
 

@@ -1,7 +1,7 @@
 use Rattle.std.proofs.Common.{◌≡◌, []}
 use Rattle.std.specs.List.{range_with_len, flat_map}
 use Rattle.nomos_forms.specs.RowGroups.{rows_in}
-use Rattle.nomos_forms.specs.mirror.Counts.{counts_with}
+use Rattle.nomos_forms.specs.mirror.StarCounts.{counts_with}
 use Rattle.nomos_forms.specs.mirror.Joining.{coefs_of}
 use Rattle.nomos_forms.proofs.counts.count_groups.Given as goal
 

@@ -2,7 +2,7 @@ use Rattle.std.proofs.Common.{ℤ, List, ◌+◌, [], ◌∷◌, ◌++◌, arith
 use Rattle.std.specs.Int.{w64}
 use Rattle.std.proofs.lemmas.Int.{to_z-of_z}
 use Rattle.std.proofs.lemmas.List.FromFn.{map-range_with_len_more}
-use Rattle.nomos_forms.specs.mirror.Counts.{count_in}
+use Rattle.nomos_forms.specs.mirror.StarCounts.{count_in}
 use Rattle.nomos_forms.proofs.counts.counts.Goals as goal
 
 -- one star more

@@ -1,6 +1,6 @@
 use Rattle.std.proofs.Common.{◌≡◌, map, ◌-ℤ◌}
 use Rattle.std.specs.List.{range_with_len}
-use Rattle.nomos_forms.specs.mirror.Counts.{count_in}
+use Rattle.nomos_forms.specs.mirror.StarCounts.{count_in}
 use Rattle.nomos_forms.proofs.counts.counts.Given as goal
 
 -- the stars so far

@@ -1,5 +1,5 @@
 use Rattle.std.proofs.Common.{◌≡◌, ◌∙◌, ◌+◌, ◌*◌, ◌<◌, [], length, get_or, sym, subst}
-use Rattle.nomos_forms.specs.mirror.Counts.{all_counts}
+use Rattle.nomos_forms.specs.mirror.StarCounts.{all_counts}
 use Rattle.nomos_forms.proofs.CountLemmas.{counts-at, counts-alike}
 use Rattle.nomos_forms.proofs.counts.place_of.Goals as goal
 

@@ -29,7 +29,7 @@ use Rattle.nomos_syntax.specs.Scan.{tokens_of}
 use Rattle.nomos_syntax.specs.Spans.{placed_of}
 use Rattle.nomos_grammar.specs.Offence.{AllKeep}
 use Rattle.nomos_grammar.specs.mirror.ReaderStates.{IsWritten}
-use Rattle.nomos_grammar.specs.mirror.Readers.{IsBehind}
+use Rattle.nomos_grammar.specs.mirror.TokenReaders.{IsBehind}
 use Rattle.nomos_grammar.proofs.NumeralLaws.{numbers_are_numerals}
 use Rattle.nomos_grammar.proofs.FirstLemmas.{keep_more, map_more, map_split, answers_error, answers_so}
 use Rattle.nomos_grammar.proofs.offence.first_offence.Goals as goal

@@ -2,7 +2,7 @@
 use Rattle.std.proofs.Common.{[], map, take}
 use Rattle.nomos_syntax.specs.Spans.{placed_of}
 use Rattle.nomos_grammar.specs.Offence.{AllKeep}
-use Rattle.nomos_grammar.specs.mirror.Readers.{IsSteady, IsBehind}
+use Rattle.nomos_grammar.specs.mirror.TokenReaders.{IsSteady, IsBehind}
 use Rattle.nomos_grammar.proofs.offence.first_offence.Given as goal
 
 abbrev pub invariant-loop-token : goal.invariant-loop-token

@@ -2,7 +2,7 @@
 use Rattle.std.proofs.Common.{◌≡◌, ℕ, ◌<◌, List, [], ◌∷◌, ◌++◌, sym, ap, subst, ◌∙◌}
 use Rattle.nomos_grammar.specs.declared.part.Part.{Part}
 use Rattle.nomos_grammar.specs.declared.part.Part.TheVariants as part
-use Rattle.nomos_grammar.specs.Counting.{Counts}
+use Rattle.nomos_grammar.specs.CountedPlaces.{Counts}
 use Rattle.nomos_grammar.specs.mirror.Table.{chosen}
 use Rattle.nomos_grammar.specs.mirror.ReaderStates.{Leads}
 use Rattle.nomos_grammar.specs.mirror.Tallies.{counts_of}

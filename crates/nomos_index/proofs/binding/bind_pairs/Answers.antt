@@ -1,7 +1,7 @@
 use Rattle.std.proofs.Common.{◌≡◌, ◌<◌, ◌+◌, ◌-◌, ◌&&◌, ℕ, eqb, cond, Option, Some, length, get_or, drop, refl, ap, ◌∙◌, arith}
 use Rattle.nomos_ir.specs.declared.ids.VarId.{VarId}
 use Rattle.nomos_slots.specs.Cells.{name_in}
-use Rattle.nomos_index.specs.Coming.{name_with}
+use Rattle.nomos_index.specs.ObjectsCome.{name_with}
 use Rattle.nomos_index.proofs.PairLemmas.{name-next, name-start}
 use Rattle.nomos_index.proofs.binding.bind_pairs.Goals as goal
 

@@ -1,6 +1,6 @@
 use Rattle.std.proofs.Common.{◌≡◌, ◌≤◌, ◌+◌, ◌-◌, ℕ, length, drop}
 use Rattle.nomos_slots.specs.Cells.{name_in}
-use Rattle.nomos_index.specs.Coming.{name_with}
+use Rattle.nomos_index.specs.ObjectsCome.{name_with}
 use Rattle.nomos_index.proofs.binding.bind_pairs.Given as goal
 
 abbrev pub invariant-loop-before : goal.invariant-loop-before

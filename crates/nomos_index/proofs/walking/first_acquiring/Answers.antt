@@ -1,6 +1,6 @@
 use Rattle.std.proofs.Common.{arith}
 use Rattle.nomos_index.specs.Indexed.{held_now}
-use Rattle.nomos_index.specs.Walks.{is_acquiring, is_over}
+use Rattle.nomos_index.specs.IndexWalks.{is_acquiring, is_over}
 use Rattle.nomos_index.proofs.StartLemmas.{none-at_all, none-before}
 use Rattle.nomos_index.proofs.walking.first_acquiring.Goals as goal
 

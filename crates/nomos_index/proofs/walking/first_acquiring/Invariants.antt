@@ -1,7 +1,7 @@
 use Rattle.std.proofs.Common.{◌≡◌, ◌<◌, ℕ, false}
 use Rattle.nomos_index.specs.Indexed.{held_now}
 use Rattle.nomos_index.specs.Sought.{passes_at}
-use Rattle.nomos_index.specs.Walks.{is_acquiring, is_over}
+use Rattle.nomos_index.specs.IndexWalks.{is_acquiring, is_over}
 use Rattle.nomos_index.proofs.walking.first_acquiring.Given as goal
 
 -- none waits at the first places

@@ -1,6 +1,6 @@
 use Rattle.std.proofs.Common.{sym, ◌∙◌, arith}
 use Rattle.nomos_index.specs.Sought.{some_passes, typed_at}
-use Rattle.nomos_index.specs.Walks.{is_owned_over}
+use Rattle.nomos_index.specs.IndexWalks.{is_owned_over}
 use Rattle.nomos_index.proofs.StartLemmas.{no-name-at_all, no-name-before, one-further}
 use Rattle.nomos_index.proofs.walking.first_owned.Goals as goal
 

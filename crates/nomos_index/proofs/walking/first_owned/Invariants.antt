@@ -1,6 +1,6 @@
 use Rattle.std.proofs.Common.{◌≡◌, ◌<◌, ℕ, false}
 use Rattle.nomos_index.specs.Sought.{some_passes, typed_at}
-use Rattle.nomos_index.specs.Walks.{is_owned_over}
+use Rattle.nomos_index.specs.IndexWalks.{is_owned_over}
 use Rattle.nomos_index.proofs.walking.first_owned.Given as goal
 
 -- the names at the first places are none

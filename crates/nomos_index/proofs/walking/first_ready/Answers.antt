@@ -1,6 +1,6 @@
 use Rattle.std.proofs.Common.{arith}
 use Rattle.nomos_index.specs.Indexed.{held_now}
-use Rattle.nomos_index.specs.Walks.{is_over, is_ready_in}
+use Rattle.nomos_index.specs.IndexWalks.{is_over, is_ready_in}
 use Rattle.nomos_index.proofs.StartLemmas.{none-at_all, none-before}
 use Rattle.nomos_index.proofs.walking.first_ready.Goals as goal
 

@@ -1,7 +1,7 @@
 use Rattle.std.proofs.Common.{◌≡◌, ◌<◌, ℕ, false}
 use Rattle.nomos_index.specs.Indexed.{held_now}
 use Rattle.nomos_index.specs.Sought.{passes_at}
-use Rattle.nomos_index.specs.Walks.{is_over, is_ready_in}
+use Rattle.nomos_index.specs.IndexWalks.{is_over, is_ready_in}
 use Rattle.nomos_index.proofs.walking.first_ready.Given as goal
 
 -- none is ready at the first places

@@ -6,7 +6,7 @@ use Rattle.nomos_index.specs.Indexed.{held_now}
 use Rattle.nomos_index.specs.Looked.{lists_at, values_at}
 use Rattle.nomos_index.specs.Objects.{kept_at, process_held}
 use Rattle.nomos_index.specs.Sought.{some_passes}
-use Rattle.nomos_index.specs.Walks.{is_acquiring, is_over}
+use Rattle.nomos_index.specs.IndexWalks.{is_acquiring, is_over}
 use Rattle.nomos_index.specs.declared.kept.Kept.TheVariants as kept
 use Rattle.nomos_index.proofs.SeekLemmas.{process-standing}
 use Rattle.nomos_index.proofs.walking.is_acquiring_at.Goals as goal

@@ -1,7 +1,7 @@
 use Rattle.std.proofs.Common.{option_and_then, sym}
 use Rattle.nomos_index.specs.Objects.{types_of}
 use Rattle.nomos_index.specs.Sought.{typed_at}
-use Rattle.nomos_index.specs.Walks.{is_owned_over}
+use Rattle.nomos_index.specs.IndexWalks.{is_owned_over}
 use Rattle.nomos_index.proofs.LookLemmas.{types-in_order}
 use Rattle.nomos_index.proofs.SumLemmas.{name-found}
 use Rattle.nomos_index.proofs.WalkLemmas.{names-next}

@@ -1,7 +1,7 @@
 use Rattle.std.proofs.Common.{option_and_then, sym, ap}
 use Rattle.nomos_machine.specs.State.{State}
 use Rattle.nomos_index.specs.Indexed.{held_now, standing_at, state_of}
-use Rattle.nomos_index.specs.Walks.{is_over, is_ready_in}
+use Rattle.nomos_index.specs.IndexWalks.{is_over, is_ready_in}
 use Rattle.nomos_index.proofs.SeekLemmas.{first-found}
 use Rattle.nomos_index.proofs.WalkLemmas.{ready-next}
 use Rattle.nomos_index.proofs.walking.next_ready.Goals as goal

@@ -1,6 +1,6 @@
 use Rattle.std.proofs.Common.{option_and_then, sym}
 use Rattle.nomos_index.specs.Indexed.{held_now, standing_at, state_of}
-use Rattle.nomos_index.specs.Walks.{is_acquiring, is_over}
+use Rattle.nomos_index.specs.IndexWalks.{is_acquiring, is_over}
 use Rattle.nomos_index.proofs.LookLemmas.{state-in_order}
 use Rattle.nomos_index.proofs.SeekLemmas.{first-found}
 use Rattle.nomos_index.proofs.WalkLemmas.{waiting-next}

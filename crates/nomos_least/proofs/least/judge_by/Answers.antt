@@ -1,5 +1,5 @@
 use Rattle.std.proofs.Common.{Err, sym, subst}
-use Rattle.nomos_accept.specs.declared.refusal.AcceptError.{AcceptError}
+use Rattle.nomos_accept.specs.declared.why.AcceptError.{AcceptError}
 use Rattle.nomos_least.proofs.BoundLemmas.{bounded-answer, refuted-least, unsolved-least}
 use Rattle.nomos_least.proofs.least.judge_by.Goals as goal
 use Rattle.nomos_least.specs.LeastBounds.{IsLeastAs, AnswersLeast}

@@ -4,7 +4,7 @@ use Rattle.nomos_ir.specs.declared.ids.VarId.{VarId}
 use Rattle.nomos_ir.specs.declared.mode.Mode.{Mode}
 use Rattle.nomos_types.specs.Acceptance.{Acceptance}
 use Rattle.nomos_types.specs.Modes.{HasMode}
-use Rattle.nomos_legal.specs.Starting.{ContractFits, ContractsFit, none}
+use Rattle.nomos_legal.specs.LineStarts.{ContractFits, ContractsFit, none}
 use Rattle.nomos_ledger.proofs.ContractsLemmas.{contracts-length, contracts-at, contracts-next}
 use Rattle.nomos_ledger.proofs.resolving.fitting_contracts.Goals as goal
 

@@ -1,5 +1,5 @@
 use Rattle.std.proofs.Common.{◌≡◌, take}
-use Rattle.nomos_legal.specs.Starting.{ContractsFit}
+use Rattle.nomos_legal.specs.LineStarts.{ContractsFit}
 use Rattle.nomos_ledger.proofs.resolving.fitting_contracts.Given as goal
 
 -- the shared names so far are those for the parameters so far

@@ -1,7 +1,7 @@
 use Rattle.std.proofs.Common.{Ok, Err, subst}
 use Rattle.std.proofs.lemmas.Result.{err_from_is_err_and}
 use Rattle.nomos_types.specs.Acceptance.{Acceptance}
-use Rattle.nomos_legal.specs.Starting.{IsDeclaration}
+use Rattle.nomos_legal.specs.LineStarts.{IsDeclaration}
 use Rattle.nomos_ledger.specs.mirror.Resolving.{IfAnswered, PassesRest}
 use Rattle.nomos_ledger.proofs.ResolvingLemmas.{declared-modes, declared-there, names-refused, rest-refused, rest-starts}
 use Rattle.nomos_ledger.proofs.resolving.resolve_found.Goals as goal

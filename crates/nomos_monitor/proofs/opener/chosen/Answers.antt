@@ -1,7 +1,7 @@
 use Rattle.std.proofs.Common.{◌∙◌, ◌<◌, length, sym, subst}
 use Rattle.std.proofs.lemmas.Option.{slice_get_within}
 use Rattle.nomos_ir.specs.declared.lists.ProgramLists.{ProgramLists}
-use Rattle.nomos_sync.specs.Carrying.{CarriesChannel}
+use Rattle.nomos_equality.specs.Carriers.{CarriesChannel}
 use Rattle.nomos_monitor.proofs.ChoosingLaws.{bound-is, can-by, it-carries, no-account, no-process, nothing-carried, read-opener, too-little, type-in_range}
 use Rattle.nomos_monitor.proofs.opener.chosen.Goals as goal
 

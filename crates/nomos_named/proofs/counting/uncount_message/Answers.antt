@@ -4,14 +4,14 @@ use Rattle.nomos_ir.specs.Order.{count_of}
 use Rattle.nomos_types.proofs.OccurrenceLaws.{count-append}
 use Rattle.nomos_index.specs.declared.mentions.MessageNames.{MessageNames}
 use Rattle.nomos_tally.specs.Tallying.{nothing, only}
-use Rattle.nomos_tally.specs.declared.tally.Doing.{Doing}
-use Rattle.nomos_tally.specs.declared.tally.Doing.TheVariants as doing
+use Rattle.nomos_tally.specs.declared.tally.NameUse.{NameUse}
+use Rattle.nomos_tally.specs.declared.tally.NameUse.TheVariants as doing
 use Rattle.nomos_tally.proofs.MoveLaws.{moves-both}
 use Rattle.nomos_named.specs.Counting.{names_used}
 use Rattle.nomos_named.proofs.counting.uncount_message.Goals as goal
 
 -- what a message does with the names that it provides and at which its talk ends
-abbrev ends_used : MessageNames → Doing → List ℕ
+abbrev ends_used : MessageNames → NameUse → List ℕ
 ends_used names doing.Provides = option_to_list names.provides
 ends_used names doing.Uses = option_to_list names.end
 ends_used names doing.Bases = []
@@ -28,7 +28,7 @@ returns c =
     (only doing.Uses (option_to_list names.brings)) (only doing.Uses []) (names_used names) nothing both
     c.exchange-3.ensures (λ d n. all d n)
   where
-    ends : (d : Doing) (n : ℕ)
+    ends : (d : NameUse) (n : ℕ)
         → count_of n (ends_used c.args.names d) + count_of n (only doing.Provides [] d) + count_of n
         (only doing.Uses [] d)
         ≡ 0 + count_of n (only doing.Provides (option_to_list c.args.names.provides) d)
@@ -37,7 +37,7 @@ returns c =
     ends doing.Uses n = omega arith
     ends doing.Bases n = refl
 
-    all : (d : Doing) (n : ℕ)
+    all : (d : NameUse) (n : ℕ)
         → count_of n (names_used c.args.names d) + 0 + count_of n (only doing.Uses [] d)
         ≡ 0 + count_of n (ends_used c.args.names d) + count_of n
         (only doing.Uses (option_to_list c.args.names.brings) d)

@@ -1,6 +1,6 @@
 use Rattle.std.proofs.Common.{◌≡◌, ◌∙◌, ℕ, sym, ap, refl}
 use Rattle.nomos_deeds.specs.Acts.{taken}
-use Rattle.nomos_deeds.specs.Seen.{seen_channel}
+use Rattle.nomos_deeds.specs.SeenObjects.{seen_channel}
 use Rattle.nomos_deeds.specs.declared.act.Into.{Into}
 use Rattle.nomos_deeds.specs.declared.act.Into.TheVariants as into
 use Rattle.nomos_deeds.specs.declared.sight.SeenMessage.{SeenMessage}

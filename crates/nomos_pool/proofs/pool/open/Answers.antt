@@ -1,8 +1,8 @@
 use Rattle.std.proofs.Common.{◌≡◌, ◌∙◌, ℕ, ◌+◌, ◌<◌, length, slice_get, Some, refl, sym, ap, subst, arith, ⊎_elim, length-append}
 use Rattle.crossbeam_queue.specs.Passes.{view, IsPassOf}
 use Rattle.nomos_pool.specs.PoolRule.{sender_view}
-use Rattle.nomos_pool.specs.declared.pool.Sender.{Sender}
-use Rattle.nomos_pool.specs.declared.rule.View.{View}
+use Rattle.nomos_pool.specs.declared.pool.Submitter.{Submitter}
+use Rattle.nomos_pool.specs.declared.pool_rule.PoolView.{PoolView}
 use Rattle.nomos_pool.proofs.PoolMoves.{enrols, opens}
 use Rattle.nomos_pool.proofs.SenderLemmas.{get_push}
 use Rattle.nomos_pool.proofs.pool.open.Goals as goal
@@ -22,11 +22,11 @@ loop-number-preserved g c =
     let q = c.another-own.ensures.queue in
     let rule = c.another-own.ensures.rule in
     let p = c.push_reserved.ensures in
-    let more : View g.row.T.Denot → View g.row.T.Denot = λ v. record v { made = v.made + 1 } in
+    let more : PoolView g.row.T.Denot → PoolView g.row.T.Denot = λ v. record v { made = v.made + 1 } in
     let own : view c.another-own.result ≡ sender_view n = rule.1 ∙ ap (λ v. sender_view v.made) i.is in
     record {
       of_queue = (q.0.0 ∙ i.of_queue.0, q.0.2 ∙ i.of_queue.1);
-      is = rule.0 ∙ ap (λ (v : View g.row.T.Denot). more v) i.is;
+      is = rule.0 ∙ ap (λ (v : PoolView g.row.T.Denot). more v) i.is;
       many = omega (arith, p.len, i.many);
       length = ap length p.items ∙ (length-append c.loop-number.made.items _ ∙ ap (λ k. k + 1) i.length);
       space = omega (arith, p.capacity, i.space);
@@ -36,7 +36,7 @@ loop-number-preserved g c =
           (λ last.
           let here = sym (last.0 ∙ i.length) in
           subst
-          (λ (y : Sender g.row.T.Denot).
+          (λ (y : Submitter g.row.T.Denot).
           IsPassOf c.in_ok-queue.queue y.pass × (view y.pass ≡ sender_view k) × (y.number ≡ k) × (k < n + 1))
           last.1
           (q.1, own ∙ ap sender_view here, here, omega (arith, last.0, i.length)))

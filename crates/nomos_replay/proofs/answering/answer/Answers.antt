@@ -3,7 +3,7 @@ use Rattle.std.proofs.lemmas.Result.{err_from_is_err_and}
 use Rattle.nomos_replay.specs.Answers as answers
 use Rattle.nomos_replay.specs.Stand.{at_head, before}
 use Rattle.nomos_replay.specs.Told.{nothing_told}
-use Rattle.nomos_replay.specs.mirror.Reading.{Carries, Stops}
+use Rattle.nomos_replay.specs.mirror.JournalReading.{Carries, Stops}
 use Rattle.nomos_replay.proofs.ReadingLemmas.{carries-on, stops-later}
 use Rattle.nomos_replay.proofs.WalkLemmas.{answer-all, refused-so}
 use Rattle.nomos_replay.proofs.answering.answer.Goals as goal

@@ -1,6 +1,6 @@
 use Rattle.std.proofs.Common.{drop, take}
 use Rattle.nomos_replay.specs.mirror.Items.{ToldUpTo}
-use Rattle.nomos_replay.specs.mirror.Reading.{IsCounted}
+use Rattle.nomos_replay.specs.mirror.JournalReading.{IsCounted}
 use Rattle.nomos_replay.proofs.answering.replay_items.Given as goal
 
 -- the items so far were told

@@ -2,7 +2,7 @@ use Rattle.std.proofs.Common.{◌∙◌, ℕ, ◌-◌, ◌<◌, List, ◌++◌, 
 use Rattle.nomos_machine.specs.Objects.{object_number}
 use Rattle.nomos_machine.specs.declared.object.Object.TheVariants as object
 use Rattle.nomos_deeds.specs.Readers.{IsTransaction}
-use Rattle.nomos_report.specs.Lines.{line}
+use Rattle.nomos_report.specs.ReportLines.{line}
 use Rattle.nomos_report.specs.Reported.{left_lines}
 use Rattle.nomos_report.specs.mirror.Walked.{walked}
 use Rattle.nomos_report.proofs.LeftLemmas.{left-before, left-silent, left-told, object-below, objects-last, objects-next}

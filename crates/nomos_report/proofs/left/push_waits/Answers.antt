@@ -3,7 +3,7 @@ use Rattle.nomos_machine.specs.Objects.{object_number}
 use Rattle.nomos_machine.specs.declared.object.Object.TheVariants as object
 use Rattle.nomos_deeds.specs.Readers.{IsWaiting}
 use Rattle.nomos_report.specs.Reported.{waits_lines}
-use Rattle.nomos_report.specs.mirror.Naming.{waiting_line}
+use Rattle.nomos_report.specs.mirror.NamedLines.{waiting_line}
 use Rattle.nomos_report.specs.mirror.Walked.{walked}
 use Rattle.nomos_report.proofs.LeftLemmas.{object-below, objects-first, objects-last, objects-next, waits-silent, waits-told}
 use Rattle.nomos_report.proofs.left.push_waits.Goals as goal

@@ -1,7 +1,7 @@
 use Rattle.std.proofs.Common.{◌∙◌, ℕ, ◌+◌, ◌-◌, ◌<◌, List, ◌++◌, length, ap, sym, arith}
 use Rattle.std.proofs.lemmas.Option.{slice_get_within}
 use Rattle.std.specs.List.{zip}
-use Rattle.nomos_report.specs.Shown.{account_line}
+use Rattle.nomos_report.specs.ShownState.{account_line}
 use Rattle.nomos_report.proofs.PlaceLemmas.{place-last, place-next, place-past, zip-within}
 use Rattle.nomos_report.proofs.show.push_accounts.Goals as goal
 

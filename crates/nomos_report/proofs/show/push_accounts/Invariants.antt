@@ -1,6 +1,6 @@
 use Rattle.std.proofs.Common.{◌≡◌, ◌++◌, ◌≤◌, ◌-◌, length, take}
 use Rattle.std.specs.List.{flat_map, zip}
-use Rattle.nomos_report.specs.Shown.{account_line}
+use Rattle.nomos_report.specs.ShownState.{account_line}
 use Rattle.nomos_report.proofs.show.push_accounts.Given as goal
 
 -- the lines of the accounts so far

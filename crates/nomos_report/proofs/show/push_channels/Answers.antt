@@ -1,7 +1,7 @@
 use Rattle.std.proofs.Common.{◌∙◌, ℕ, ◌-◌, ◌<◌, List, ◌++◌, ap, sym, arith, append_assoc}
 use Rattle.nomos_ir.specs.declared.ids.TypeId.{TypeId}
-use Rattle.nomos_report.specs.Shown.{channel_line}
-use Rattle.nomos_report.specs.mirror.Naming.{name_line}
+use Rattle.nomos_report.specs.ShownState.{channel_line}
+use Rattle.nomos_report.specs.mirror.NamedLines.{name_line}
 use Rattle.nomos_report.specs.mirror.Walked.{walked}
 use Rattle.nomos_report.proofs.ChannelLemmas.{name-below, names-first, names-last, names-next}
 use Rattle.nomos_report.proofs.show.push_channels.Goals as goal

@@ -1,5 +1,5 @@
 use Rattle.std.proofs.Common.{◌≡◌, ◌++◌, ◌-◌}
-use Rattle.nomos_report.specs.Shown.{channel_line}
+use Rattle.nomos_report.specs.ShownState.{channel_line}
 use Rattle.nomos_report.specs.mirror.Walked.{walked}
 use Rattle.nomos_report.proofs.show.push_channels.Given as goal
 

@@ -1,6 +1,6 @@
 use Rattle.std.proofs.Common.{◌≡◌, ◌∙◌, ℕ, List, ◌++◌, OnOk, Some, None, ap, subst, sym, codes, decimal}
 use Rattle.nomos_base.specs.Gas.{gas_text}
-use Rattle.nomos_report.specs.Shown.{held_text}
+use Rattle.nomos_report.specs.ShownState.{held_text}
 use Rattle.nomos_report.proofs.ContractLemmas.{contract-printed, keeper-stands}
 use Rattle.nomos_report.proofs.show.push_contract.Goals as goal
 

@@ -1,6 +1,6 @@
 use Rattle.std.proofs.Common.{◌∙◌, ℕ, List, ◌++◌, ap, sym, arith}
 use Rattle.nomos_machine.specs.State.{State}
-use Rattle.nomos_report.specs.Shown.{named_line}
+use Rattle.nomos_report.specs.ShownState.{named_line}
 use Rattle.nomos_report.proofs.PlaceLemmas.{place-last, place-next}
 use Rattle.nomos_report.proofs.show.push_contracts.Goals as goal
 

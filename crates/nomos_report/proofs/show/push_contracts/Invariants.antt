@@ -1,6 +1,6 @@
 use Rattle.std.proofs.Common.{◌≡◌, ◌++◌, take}
 use Rattle.std.specs.List.{flat_map}
-use Rattle.nomos_report.specs.Shown.{named_line}
+use Rattle.nomos_report.specs.ShownState.{named_line}
 use Rattle.nomos_report.proofs.show.push_contracts.Given as goal
 
 -- the lines of the contracts so far

@@ -6,7 +6,7 @@ use Rattle.nomos_rows.proofs.FunctionLemmas.{fine-no_fault, function-told}
 use Rattle.nomos_rows.proofs.TellingLemmas.{tells-more}
 use Rattle.nomos_rows.proofs.functions.first_other_kind.Goals as goal
 use Rattle.nomos_rows.specs.mirror.Declarations.{FunctionFault, FunctionFine}
-use Rattle.nomos_rows.specs.mirror.Telling.{TellsBelow}
+use Rattle.nomos_rows.specs.mirror.FirstFault.{TellsBelow}
 
 -- the slice has the program's functions
 fns-of : (lists other : ProgramLists) (fns : List FnDecl) → fns ≡ other.fns → other ≡ lists → fns ≡ lists.fns

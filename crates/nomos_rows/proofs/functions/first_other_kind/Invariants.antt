@@ -1,5 +1,5 @@
 use Rattle.nomos_rows.specs.mirror.Declarations.{FunctionFault, FunctionFine}
-use Rattle.nomos_rows.specs.mirror.Telling.{TellsBelow}
+use Rattle.nomos_rows.specs.mirror.FirstFault.{TellsBelow}
 use Rattle.nomos_rows.proofs.functions.first_other_kind.Given as goal
 
 -- the functions so far

@@ -5,7 +5,7 @@ use Rattle.nomos_rows.proofs.TellingLemmas.{tells-more}
 use Rattle.nomos_rows.proofs.processes.first_stuck.Goals as goal
 use Rattle.nomos_rows.specs.mirror.Declarations.{ProcessFault, ProcessFine}
 use Rattle.nomos_rows.specs.mirror.Processes.{Gathers}
-use Rattle.nomos_rows.specs.mirror.Telling.{TellsBelow}
+use Rattle.nomos_rows.specs.mirror.FirstFault.{TellsBelow}
 use Rattle.nomos_rows.specs.mirror.Ups.{IfNone}
 
 -- one process more

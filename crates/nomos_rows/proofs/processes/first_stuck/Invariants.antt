@@ -4,7 +4,7 @@ use Rattle.nomos_forms.specs.Bounds.{IsForm}
 use Rattle.nomos_ir.specs.Amounts.{star_count}
 use Rattle.nomos_rows.specs.mirror.Declarations.{ProcessFault, ProcessFine}
 use Rattle.nomos_rows.specs.mirror.Processes.{Gathers}
-use Rattle.nomos_rows.specs.mirror.Telling.{TellsBelow}
+use Rattle.nomos_rows.specs.mirror.FirstFault.{TellsBelow}
 use Rattle.nomos_rows.specs.mirror.Ups.{IfNone}
 use Rattle.nomos_rows.proofs.processes.first_stuck.Given as goal
 

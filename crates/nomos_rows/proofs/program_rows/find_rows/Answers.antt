@@ -5,10 +5,10 @@ use Rattle.nomos_equality.specs.declared.hop.Hop.{Hop}
 use Rattle.nomos_forms.specs.declared.row_list.RowList.{RowList}
 use Rattle.nomos_rows.proofs.AnswerLemmas.{astray-cause, back-synchronizing, fault-cause, rows-found}
 use Rattle.nomos_rows.proofs.program_rows.find_rows.Goals as goal
-use Rattle.nomos_rows.specs.declared.telling.Fault.{Fault}
+use Rattle.nomos_rows.specs.declared.first_fault.DeclarationFault.{DeclarationFault}
 use Rattle.nomos_rows.specs.PartFaults.{IsCause}
 use Rattle.nomos_rows.specs.mirror.Processes.{AnswersDeclarations}
-use Rattle.nomos_rows.specs.mirror.Telling.{TellsBelow}
+use Rattle.nomos_rows.specs.mirror.FirstFault.{TellsBelow}
 use Rattle.nomos_rows.specs.mirror.Ups.{GoesAstray, GoesBack, IfNone, PairsBelow}
 
 pub returns-in-Ok-Some : goal.returns-in-Ok-Some
@@ -27,7 +27,7 @@ returns-in-Ok c =
     let joined : Pairs = subst (IfNone Pairs) c.in-Ok-None.field-0-is c.in-Ok-None.ensures.pairs in
     let pairs = subst (λ (old : Compared). PairsBelow lists (length lists.types) old known) c.new-equalities.ensures
     joined in
-    let Says : Result RowList (ℕ × Fault) → Type 0 = AnswersDeclarations lists known in
+    let Says : Result RowList (ℕ × DeclarationFault) → Type 0 = AnswersDeclarations lists known in
     let answer = subst Says c.in-Ok.is c.in_ok-rows-in-Ok-None.ensures in
     rows-found c.requires.formed back known pairs c.in-Ok.rows answer.0 answer.1
 
@@ -37,7 +37,7 @@ returns-in-Err-2 c =
     let known = c.first_astray.new.equalities in
     let Tells : Option (ℕ × List Hop) → Type 0 = TellsBelow (GoesAstray lists) (GoesBack lists) (length lists.types) in
     let back = subst Tells c.in-Ok-None.field-0-is c.in-Ok-None.ensures.tell in
-    let Says : Result RowList (ℕ × Fault) → Type 0 = AnswersDeclarations lists known in
+    let Says : Result RowList (ℕ × DeclarationFault) → Type 0 = AnswersDeclarations lists known in
     let answer = subst Says c.in-Err-2.is c.in_ok-rows-in-Ok-None.ensures in
     subst (IsCause lists) (sym c.error_of.ensures) (fault-cause
     (back-synchronizing back) c.in-Err-2.at c.in-Err-2.fault answer)

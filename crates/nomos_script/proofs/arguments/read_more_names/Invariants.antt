@@ -1,6 +1,6 @@
 -- The names so far are those of the tokens that were taken.
 use Rattle.std.proofs.Common.{length}
-use Rattle.nomos_script.specs.mirror.Seen.{AreMoreNames}
+use Rattle.nomos_script.specs.mirror.ReaderSeen.{AreMoreNames}
 use Rattle.nomos_script.proofs.arguments.read_more_names.Given as goal
 
 abbrev pub invariant-names : goal.invariant-names

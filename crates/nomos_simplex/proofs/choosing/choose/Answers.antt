@@ -2,10 +2,10 @@ use Rattle.std.proofs.Common.{◌≡◌, ◌≤◌, ◌+◌, ap, sym, subst, ◌
 use Rattle.std.proofs.lemmas.Bool.{false≢true}
 use Rattle.std.proofs.lemmas.List.{get_or_default}
 use Rattle.std.specs.Prelude.{nat_lt}
-use Rattle.nomos_simplex.specs.Lowest.{lowest_place}
+use Rattle.nomos_simplex.specs.LowestVariable.{lowest_place}
 use Rattle.nomos_simplex.specs.Nearest.{line_at}
 use Rattle.nomos_simplex.specs.mirror.Classes.{IsFollowed, class_at, column_at}
-use Rattle.nomos_simplex.specs.declared.table.Line.{Line}
+use Rattle.nomos_simplex.specs.declared.table.TableLine.{TableLine}
 use Rattle.nomos_simplex.proofs.ChosenLemmas.{is_followed, line_chosen, column_chosen, none_chosen}
 use Rattle.nomos_simplex.proofs.ClassChoiceLemmas.{leaves, none_below_at}
 use Rattle.nomos_simplex.proofs.choosing.choose.Goals as goal
@@ -28,7 +28,7 @@ returns-then-as_slice-place c = λ rows shows.
     let number : get_or c.as_slice-nonbasic.result.now c.in-Some-Some.column 0 ≡ column_at table
     c.in-Some-Some.column = ap (λ xs. get_or xs c.in-Some-Some.column 0) c.as_slice-nonbasic.ensures in
     let most : (line_at table.lines c.in-Some-Some.place).basic ≤ column_at table c.in-Some-Some.column = omega
-    (arith, ap (λ (l : Line). l.basic) at, number, c.if-as_slice-place.true) in
+    (arith, ap (λ (l : TableLine). l.basic) at, number, c.if-as_slice-place.true) in
     line_chosen rows table classes c.in-Some-Some.place
     (sym (c.leaving-line.ensures.choice rows shows) ∙ c.in-Some-Some.is-0)
     (λ j l h. omega (arith, most, column.2 j l h))
@@ -51,7 +51,7 @@ returns-else-as_slice-place c = λ rows shows.
     let number : get_or c.as_slice-nonbasic.result.now c.in-Some-Some.column 0 ≡ column_at table
     c.in-Some-Some.column = ap (λ xs. get_or xs c.in-Some-Some.column 0) c.as_slice-nonbasic.ensures in
     let more : column_at table c.in-Some-Some.column + 1 ≤ (line_at table.lines c.in-Some-Some.place).basic = omega
-    (arith, ap (λ (l : Line). l.basic) at, number, c.if-as_slice-place.false) in
+    (arith, ap (λ (l : TableLine). l.basic) at, number, c.if-as_slice-place.false) in
     column_chosen rows table classes c.in-Some-Some.column column
     (λ i l b. omega (arith, more, line.least i l b))
 

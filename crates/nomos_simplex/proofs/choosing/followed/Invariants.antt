@@ -1,6 +1,6 @@
 use Rattle.std.proofs.Common.{◌≡◌, ◌<◌, length, slice_index, IfSome}
 use Rattle.std.specs.Prelude.{nat_lt}
-use Rattle.nomos_simplex.specs.Lowest.{lowest_place}
+use Rattle.nomos_simplex.specs.LowestVariable.{lowest_place}
 use Rattle.nomos_simplex.specs.mirror.Classes.{class_at}
 use Rattle.nomos_simplex.proofs.choosing.followed.Given as goal
 

@@ -1,5 +1,5 @@
 use Rattle.std.proofs.Common.{pos, int_lt, length, map, get_or, ◌∙◌}
-use Rattle.nomos_simplex.specs.Lowest.{lowest_place}
+use Rattle.nomos_simplex.specs.LowestVariable.{lowest_place}
 use Rattle.nomos_simplex.proofs.KeepingLemmas.{leaving_shown}
 use Rattle.nomos_simplex.proofs.choosing.leaving.Goals as goal
 

@@ -11,8 +11,8 @@ use Rattle.nomos_simplex.specs.Divisors.{in_lowest_terms}
 use Rattle.nomos_simplex.specs.Exchange.{coef_at, put_into, solved_for, lines_exchanged, is_large_line}
 use Rattle.nomos_simplex.specs.Sizes.{IsLine, HasNumbers}
 use Rattle.nomos_simplex.specs.Tables.{bound_of}
-use Rattle.nomos_simplex.specs.declared.exchanging.Entry.{Entry}
-use Rattle.nomos_simplex.specs.declared.table.Line.{Line}
+use Rattle.nomos_simplex.specs.declared.exchanging.EnteredLine.{EnteredLine}
+use Rattle.nomos_simplex.specs.declared.table.TableLine.{TableLine}
 use Rattle.nomos_simplex.specs.mirror.Keeping.{over_of, entered, solved_line, AreMade}
 use Rattle.nomos_simplex.specs.mirror.Opposite.{oriented_of}
 use Rattle.nomos_simplex.specs.mirror.SkipsZeros.{SkipsZeros}
@@ -32,14 +32,14 @@ exchange_lines-requires-clause-entry c =
     let z = c.requires.not_zero own there in
     let column : j < length own.coefs = subst (λ n. j < n) (sym line.width) c.requires.column in
     let is = c.in_ok-left.ensures in
-    let width = ap (λ (l : Line). length l.coefs) is ∙ oriented_width j own column z in
+    let width = ap (λ (l : TableLine). length l.coefs) is ∙ oriented_width j own column z in
     let size = length-set c.into_vec-nonbasic.result.items j c.in_ok-left.left.basic
     ∙ ap length c.into_vec-nonbasic.ensures in
     record {
       column = subst (λ n. j < n) (sym width) column;
       left = subst HasNumbers (sym is)
           (oriented_numbers j own column z (record { times = line.times; coefs = line.coefs }));
-      over_zero = subst (λ (l : Line). pos 0 <ℤ coef_at j l) (sym is) (oriented_over j own column z);
+      over_zero = subst (λ (l : TableLine). pos 0 <ℤ coef_at j l) (sym is) (oriented_over j own column z);
       width = size ∙ sym line.width ∙ sym width;
       few = subst (λ n. n ≤ 64) (sym size) c.requires.few;
       over = c.oriented_over-own_over.ensures.small;
@@ -57,7 +57,7 @@ exchange_lines-requires-clause-lines c =
     let there = slice_get_read table.lines _ c.args.place own refl c.requires.place at in
     let z = c.requires.not_zero own there in
     let column : j < length own.coefs = subst (λ n. j < n) (sym line.width) c.requires.column in
-    let width = ap (λ (l : Line). length l.coefs) c.in_ok-left.ensures ∙ oriented_width j own column z in
+    let width = ap (λ (l : TableLine). length l.coefs) c.in_ok-left.ensures ∙ oriented_width j own column z in
     let P = IsLine (length c.in_ok-left.left.coefs) in
     let rest = c.remove-own.ensures.items ∙ ap (λ ls. remove ls c.args.place) c.into_vec-lines.ensures in
     subst (All P) (sym rest) (All-remove P table.lines c.args.place
@@ -116,7 +116,7 @@ returns-then-large c = λ left h.
     let j = c.args.column in
     let own = c.remove-own.result in
     let e = c.index-entering.result.now in
-    let entry : Entry = record {
+    let entry : EnteredLine = record {
       column = j;
       entering = e;
       left = c.in_ok-left.left;
@@ -153,7 +153,7 @@ returns c = λ left h.
     let j = c.args.column in
     let own = c.remove-own.result in
     let e = c.index-entering.result.now in
-    let entry : Entry = record {
+    let entry : EnteredLine = record {
       column = j;
       entering = e;
       left = c.in_ok-left.left;
@@ -181,7 +181,8 @@ returns c = λ left h.
     ∙ ap (λ l. lines_exchanged c.args.place j (get_or table.nonbasic j 0) l table.lines) own_is in
     let made = subst (AreMade rows entry all c.exchange_lines.new.lines.items c.exchange_lines.new.over.items)
     c.if-large.false c.in_ok-large.ensures in
-    let basic = ap (λ (l : Line). l.basic) is ∙ oriented_basic j own column z ∙ ap (λ (l : Line). l.basic) own_is in
+    let basic = ap (λ (l : TableLine). l.basic) is ∙ oriented_basic j own column z
+    ∙ ap (λ (l : TableLine). l.basic) own_is in
     let nonbasic = c.of_vec.ensures ∙ (λ p. set (c.into_vec-nonbasic.ensures p) j (basic p)) in
     let lines = c.of_vec-2.ensures ∙ made.0 in (
       (λ p. record { nonbasic = nonbasic p; lines = (lines ∙ same) p }),

@@ -5,7 +5,7 @@ use Rattle.std.proofs.lemmas.List.{length-map}
 use Rattle.nomos_forms.proofs.ProductLemmas.{wide_back}
 use Rattle.nomos_simplex.specs.Exchange.{is_large_line}
 use Rattle.nomos_simplex.specs.Sizes.{IsLine}
-use Rattle.nomos_simplex.specs.declared.table.Line.{Line}
+use Rattle.nomos_simplex.specs.declared.table.TableLine.{TableLine}
 use Rattle.nomos_simplex.specs.Tables.{bound_of}
 use Rattle.nomos_simplex.specs.mirror.Keeping.{over_of, before, entered, solved_line, AreMade}
 use Rattle.nomos_simplex.proofs.KeepingLemmas.{solved_is_line, written, map_behind, none_behind}
@@ -28,7 +28,7 @@ pub returns : goal.returns
 returns c =
     let entry = c.args.entry.now in
     let rows = c.args.rows.now in
-    let f = λ (line : Line). over_of rows entry.nonbasic.items line in
+    let f = λ (line : TableLine). over_of rows entry.nonbasic.items line in
     let all = map (entered entry) c.args.lines.now.items in
     let front = ap (map (entered entry)) c.deref_mut.ensures.value in
     let made = subst (AreMade rows entry (map (entered entry) c.deref_mut.result.now) c.enter_all-large.new.lines

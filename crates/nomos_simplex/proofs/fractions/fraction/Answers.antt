@@ -4,7 +4,7 @@ use Rattle.nomos_forms.proofs.ProductLemmas.{wide_back}
 use Rattle.nomos_simplex.specs.Exits.{fraction_in}
 use Rattle.nomos_simplex.specs.Sizes.{IsLine, IsNumber}
 use Rattle.nomos_simplex.specs.Tables.{bound_of}
-use Rattle.nomos_simplex.specs.declared.table.Line.{Line}
+use Rattle.nomos_simplex.specs.declared.table.TableLine.{TableLine}
 use Rattle.nomos_simplex.specs.mirror.Keeping.{sum_of}
 use Rattle.nomos_simplex.proofs.FractionLemmas.{found_in}
 use Rattle.nomos_simplex.proofs.LineLemmas.{sum_of_bounds}
@@ -14,7 +14,7 @@ use Rattle.nomos_simplex.proofs.fractions.fraction.Goals as goal
 pub sum_at_bounds-sum-requires : goal.sum_at_bounds-sum-requires
 sum_at_bounds-sum-requires c =
     let line = c.in-Some.line.now in
-    let is = (found_in (λ (l : Line). l.basic == c.args.star) (IsLine (length c.args.bounds.now)) c.args.lines.now
+    let is = (found_in (λ (l : TableLine). l.basic == c.args.star) (IsLine (length c.args.bounds.now)) c.args.lines.now
     line (sym c.in-Some.ensures) c.requires.lines).0 in
     let size = ap length c.as_slice.ensures in
     record {
@@ -27,7 +27,7 @@ sum_at_bounds-sum-requires c =
 pub returns-in-Some-clause-value : goal.returns-in-Some-clause-value
 returns-in-Some-clause-value c = λ rows nonbasic e.
     let line = c.in-Some.line.now in
-    let is = (found_in (λ (l : Line). l.basic == c.args.star) (IsLine (length c.args.bounds.now)) c.args.lines.now
+    let is = (found_in (λ (l : TableLine). l.basic == c.args.star) (IsLine (length c.args.bounds.now)) c.args.lines.now
     line (sym c.in-Some.ensures) c.requires.lines).0 in
     let s = c.sum_at_bounds-sum in
     let value = s.ensures.value ∙ (λ p. sum_of (e p) (c.as_slice.ensures p))
@@ -40,7 +40,7 @@ returns-in-Some-clause-value c = λ rows nonbasic e.
 pub returns-in-Some-clause-size : goal.returns-in-Some-clause-size
 returns-in-Some-clause-size c =
     let line = c.in-Some.line.now in
-    let is = (found_in (λ (l : Line). l.basic == c.args.star) (IsLine (length c.args.bounds.now)) c.args.lines.now
+    let is = (found_in (λ (l : TableLine). l.basic == c.args.star) (IsLine (length c.args.bounds.now)) c.args.lines.now
     line (sym c.in-Some.ensures) c.requires.lines).0 in
     let s = c.sum_at_bounds-sum in
     let sum = c.unsigned_abs.ensures.value ∙ ap unsigned_abs (wide_back s.result (omega (arith, s.ensures.size))) in

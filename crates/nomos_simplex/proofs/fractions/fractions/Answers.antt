@@ -3,7 +3,7 @@ use Rattle.std.specs.Prelude.{find}
 use Rattle.std.proofs.lemmas.List.Elements.{All-push}
 use Rattle.std.proofs.lemmas.List.FromFn.{map-range_with_len_more}
 use Rattle.nomos_simplex.specs.Exits.{fraction_of, fraction_in, IsFraction}
-use Rattle.nomos_simplex.specs.declared.table.Line.{Line}
+use Rattle.nomos_simplex.specs.declared.table.TableLine.{TableLine}
 use Rattle.nomos_simplex.proofs.fractions.fractions.Goals as goal
 
 -- one star more
@@ -14,7 +14,7 @@ loop-before-preserved c =
     let next = c.fraction in
     let bounds = c.deref.ensures.value ∙ c.in_ok-bounds.ensures.value in
     let value = next.ensures.value rows c.as_slice.result.now bounds
-    ∙ (λ p. fraction_in rows (c.as_slice.ensures p) (find (λ (line : Line). line.basic
+    ∙ (λ p. fraction_in rows (c.as_slice.ensures p) (find (λ (line : TableLine). line.basic
     == (c.from-star.ensures p + 1)) (c.as_slice-in-loop-before.ensures p))) in
     record {
       value = c.in_ok-push.ensures.items ∙ (λ p. c.loop-before.invariant.value p ++ value p ∷ [])

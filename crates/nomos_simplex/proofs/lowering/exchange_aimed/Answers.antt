@@ -8,7 +8,7 @@ use Rattle.nomos_simplex.specs.Exchange.{coef_at, put_into, exchanged, is_large_
 use Rattle.nomos_simplex.specs.LeastRun.{line_exchanged}
 use Rattle.nomos_simplex.specs.Nearest.{line_at}
 use Rattle.nomos_simplex.specs.Sizes.{IsLine, HasNumbers}
-use Rattle.nomos_simplex.specs.declared.table.Line.{Line}
+use Rattle.nomos_simplex.specs.declared.table.TableLine.{TableLine}
 use Rattle.nomos_simplex.specs.mirror.Classes.{IsClassedOrLarge}
 use Rattle.nomos_simplex.specs.mirror.Opposite.{opposite_of}
 use Rattle.nomos_simplex.proofs.ClassLoweringLemmas.{kept-lines}
@@ -52,8 +52,8 @@ enter-small-requires-clause-over_zero c =
     let column : j < length line.coefs = subst (λ n. j < n) (sym own.width) c.requires.column in
     let same : line_at c.args.aimed.classed.kept.table.lines c.args.place ≡ line =
     get_or_default c.args.aimed.classed.kept.table.lines c.args.place _ line c.requires.place.within ∙ sym is in
-    let under = subst (λ (l : Line). coef_at j l <ℤ pos 0) same c.requires.place.below in
-    subst (λ (l : Line). pos 0 <ℤ coef_at j l) (sym c.in_ok-left.ensures)
+    let under = subst (λ (l : TableLine). coef_at j l <ℤ pos 0) same c.requires.place.below in
+    subst (λ (l : TableLine). pos 0 <ℤ coef_at j l) (sym c.in_ok-left.ensures)
     (subst (λ z. pos 0 <ℤ z) (sym (coef-opposite j line column)) (over_from_under (coef_at j line) under))
 
 pub enter-small-requires-clause-line : goal.enter-small-requires-clause-line
@@ -64,7 +64,7 @@ enter-small-requires-clause-line c =
     let own = subst (IsLine (length c.args.aimed.classed.kept.table.nonbasic)) (sym is)
     (own_lines c.args.place line c.requires.place.within) in
     let long : length c.in_ok-left.left.coefs ≡ length c.args.aimed.classed.kept.table.nonbasic =
-    ap (λ (l : Line). length l.coefs) c.in_ok-left.ensures ∙ length-map line.coefs neg_ℤ ∙ own.width in
+    ap (λ (l : TableLine). length l.coefs) c.in_ok-left.ensures ∙ length-map line.coefs neg_ℤ ∙ own.width in
     subst (λ n. IsLine n c.args.aimed.line) (sym long) c.requires.line
 
 pub exchange_classed-requires-clause-not_zero : goal.exchange_classed-requires-clause-not_zero
@@ -72,9 +72,9 @@ exchange_classed-requires-clause-not_zero c = λ left h.
     let j = c.args.column in
     let same : line_at c.args.aimed.classed.kept.table.lines c.args.place ≡ left =
     get_or_from_slice_get c.args.aimed.classed.kept.table.lines c.args.place left _ h in
-    not_zero (coef_at j left) (subst (λ (l : Line). coef_at j l <ℤ pos 0) same c.requires.place.below)
+    not_zero (coef_at j left) (subst (λ (l : TableLine). coef_at j l <ℤ pos 0) same c.requires.place.below)
 
-line_turned : (j : ℕ) (line left own : Line) → j < length line.coefs → ¬ (coef_at j line ≡ pos 0) →
+line_turned : (j : ℕ) (line left own : TableLine) → j < length line.coefs → ¬ (coef_at j line ≡ pos 0) →
     pos 0 <ℤ own.times → line ≡ left →
     in_lowest_terms (put_into j (opposite_of line) own) ≡ line_exchanged j left own
 line_turned j line left own h n over same =
@@ -107,7 +107,7 @@ returns-then-is_too_large c = λ full k left is_reached shows at_full h.
     let same : line ≡ left = is ∙ get_or_from_slice_get table.lines c.args.place left line h in
     let at : line_at table.lines c.args.place ≡ line =
     get_or_default table.lines c.args.place _ line c.requires.place.within ∙ sym is in
-    let n = not_zero (coef_at j line) (subst (λ (l : Line). coef_at j l <ℤ pos 0) at c.requires.place.below) in
+    let n = not_zero (coef_at j line) (subst (λ (l : TableLine). coef_at j l <ℤ pos 0) at c.requires.place.below) in
     let made : c.enter-small.new.line ≡ line_exchanged j left own =
     c.enter-small.ensures.value ∙ ap (λ l. in_lowest_terms (put_into j l own)) c.in_ok-left.ensures
     ∙ line_turned j line left own column n c.requires.line.positive same in
@@ -129,7 +129,7 @@ returns-in-None c = λ full k left is_reached shows at_full h.
     let same : line ≡ left = is ∙ get_or_from_slice_get table.lines c.args.place left line h in
     let at : line_at table.lines c.args.place ≡ line =
     get_or_default table.lines c.args.place _ line c.requires.place.within ∙ sym is in
-    let n = not_zero (coef_at j line) (subst (λ (l : Line). coef_at j l <ℤ pos 0) at c.requires.place.below) in
+    let n = not_zero (coef_at j line) (subst (λ (l : TableLine). coef_at j l <ℤ pos 0) at c.requires.place.below) in
     let made : c.enter-small.new.line ≡ line_exchanged j left own =
     c.enter-small.ensures.value ∙ ap (λ l. in_lowest_terms (put_into j l own)) c.in_ok-left.ensures
     ∙ line_turned j line left own column n c.requires.line.positive same in
@@ -152,7 +152,7 @@ returns-in-Some c = λ full k left is_reached shows at_full h.
     let same : line ≡ left = is ∙ get_or_from_slice_get table.lines c.args.place left line h in
     let at : line_at table.lines c.args.place ≡ line =
     get_or_default table.lines c.args.place _ line c.requires.place.within ∙ sym is in
-    let n = not_zero (coef_at j line) (subst (λ (l : Line). coef_at j l <ℤ pos 0) at c.requires.place.below) in
+    let n = not_zero (coef_at j line) (subst (λ (l : TableLine). coef_at j l <ℤ pos 0) at c.requires.place.below) in
     let made : c.enter-small.new.line ≡ line_exchanged j left own =
     c.enter-small.ensures.value ∙ ap (λ l. in_lowest_terms (put_into j l own)) c.in_ok-left.ensures
     ∙ line_turned j line left own column n c.requires.line.positive same in

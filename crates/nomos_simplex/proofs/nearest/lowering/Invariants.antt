@@ -1,5 +1,5 @@
 use Rattle.std.proofs.Common.{◌≡◌, ◌<◌, length, pos, int_lt, slice_index, slice_index_or, IfSome}
-use Rattle.nomos_simplex.specs.Lowest.{lowest_place}
+use Rattle.nomos_simplex.specs.LowestVariable.{lowest_place}
 use Rattle.nomos_simplex.proofs.nearest.lowering.Given as goal
 
 -- the choice among the columns so far

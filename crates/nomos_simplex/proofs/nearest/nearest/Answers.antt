@@ -5,7 +5,7 @@ use Rattle.nomos_forms.specs.declared.row_list.RowList.{RowList}
 use Rattle.nomos_simplex.specs.Exchange.{coef_at}
 use Rattle.nomos_simplex.specs.Nearest.{is_nearer, line_at}
 use Rattle.nomos_simplex.specs.mirror.Steps.{MayLeave}
-use Rattle.nomos_simplex.specs.declared.table.Line.{Line}
+use Rattle.nomos_simplex.specs.declared.table.TableLine.{TableLine}
 use Rattle.nomos_simplex.proofs.ChoiceLemmas.{foremost_then, foremost_else}
 use Rattle.nomos_simplex.proofs.NumberLemmas.{number_back}
 use Rattle.nomos_simplex.proofs.nearest.nearest.Goals as goal
@@ -25,7 +25,7 @@ loop-place-preserved c =
     let is = ap (λ ls. get_or ls place line) lines ∙ sym (get_or_default table.lines place _ line within) in
     let own = c.requires.table.lines place _ within in
     let coef = ap (λ xs. to_z w128 (of_z w128 (get_or xs column (pos 0))))
-    (c.as_slice.ensures ∙ ap (λ (l : Line). l.coefs) is)
+    (c.as_slice.ensures ∙ ap (λ (l : TableLine). l.coefs) is)
     ∙ number_back (coef_at column here) (own.coefs column (pos 0) (omega (arith, own.width, c.requires.column))) in
     let passes = λ (i : ℕ). int_lt (coef_at column (line_at table.lines i)) (pos 0) in
     let is_former = λ (rows : RowList) (i : ℕ) (k : ℕ). is_nearer rows table.nonbasic column (line_at table.lines i)

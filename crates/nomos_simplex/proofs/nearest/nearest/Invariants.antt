@@ -1,7 +1,7 @@
 use Rattle.std.proofs.Common.{◌≡◌, pos, int_lt, IfSome}
 use Rattle.nomos_forms.specs.declared.row_list.RowList.{RowList}
 use Rattle.nomos_simplex.specs.Exchange.{coef_at}
-use Rattle.nomos_simplex.specs.Lowest.{foremost_place}
+use Rattle.nomos_simplex.specs.LowestVariable.{foremost_place}
 use Rattle.nomos_simplex.specs.Nearest.{is_nearer, line_at}
 use Rattle.nomos_simplex.specs.mirror.Keeping.{Shows}
 use Rattle.nomos_simplex.specs.mirror.Steps.{MayLeave}

@@ -1,7 +1,7 @@
 use Rattle.std.proofs.Common.{◌≡◌, ◌+◌, ◌-◌, ◌/◌, sym, subst, ◌∙◌, arith, true, ◌⊎◌}
 use Rattle.std.specs.Int.{w128}
 use Rattle.std.proofs.lemmas.Int.{to_z-of_z}
-use Rattle.nomos_simplex.specs.Lowest.{is_below}
+use Rattle.nomos_simplex.specs.LowestVariable.{is_below}
 use Rattle.nomos_simplex.specs.mirror.Classes.{named}
 use Rattle.nomos_simplex.proofs.BelowLemmas.{not_below_before}
 use Rattle.nomos_simplex.proofs.renaming.lead.Goals as goal

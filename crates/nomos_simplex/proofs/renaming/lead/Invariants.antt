@@ -1,5 +1,5 @@
 use Rattle.std.proofs.Common.{◌≡◌, ℕ, ◌-◌, ◌<◌, ◌≤◌, ◌⊎◌, List, true, false}
-use Rattle.nomos_simplex.specs.Lowest.{is_below}
+use Rattle.nomos_simplex.specs.LowestVariable.{is_below}
 use Rattle.nomos_simplex.specs.mirror.Classes.{named}
 use Rattle.nomos_simplex.specs.mirror.Keeping.{over_of}
 use Rattle.nomos_simplex.proofs.renaming.lead.Given as goal

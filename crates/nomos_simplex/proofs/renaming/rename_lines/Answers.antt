@@ -9,7 +9,7 @@ use Rattle.nomos_simplex.specs.Nearest.{line_at}
 use Rattle.nomos_simplex.specs.Sizes.{IsLine}
 use Rattle.nomos_simplex.specs.mirror.Classes.{IsIn, IsLead, SameNumbers, class_at, named}
 use Rattle.nomos_simplex.specs.mirror.Keeping.{over_of}
-use Rattle.nomos_simplex.specs.declared.table.Line.{Line}
+use Rattle.nomos_simplex.specs.declared.table.TableLine.{TableLine}
 use Rattle.nomos_simplex.proofs.ClassLemmas.{no_class, no_line}
 use Rattle.nomos_simplex.proofs.RenamingLemmas.{where_set, named-is_line}
 use Rattle.nomos_simplex.proofs.renaming.rename_lines.Goals as goal

@@ -5,13 +5,13 @@ use Rattle.std.proofs.lemmas.List.{get_or_default}
 use Rattle.std.proofs.lemmas.Option.{get_or_from_slice_get, slice_get-get_or}
 use Rattle.nomos_simplex.specs.Exchange.{coef_at, exchanged}
 use Rattle.nomos_simplex.specs.Exits.{verdict_of}
-use Rattle.nomos_simplex.specs.Lowest.{entering}
+use Rattle.nomos_simplex.specs.LowestVariable.{entering}
 use Rattle.nomos_simplex.specs.Nearest.{line_at}
 use Rattle.nomos_simplex.specs.PivotRun.{turn}
 use Rattle.nomos_simplex.specs.Sizes.{IsLine}
 use Rattle.nomos_simplex.specs.declared.solved.Solved.TheVariants as solved
-use Rattle.nomos_simplex.specs.declared.table.Line.{Line}
-use Rattle.nomos_simplex.specs.declared.turn.Turn.TheVariants.{Ends}
+use Rattle.nomos_simplex.specs.declared.table.TableLine.{TableLine}
+use Rattle.nomos_simplex.specs.declared.turn.PivotTurn.TheVariants.{Ends}
 use Rattle.nomos_simplex.specs.mirror.Classes.{IsClassedOrLarge}
 use Rattle.nomos_simplex.proofs.ClassChoiceLemmas.{line_leaves}
 use Rattle.nomos_simplex.proofs.ClassLemmas.{no_line}
@@ -28,7 +28,7 @@ entering-requires c =
     let line = c.index-as_slice-place.result in
     let is : line ≡ get_or table.lines c.args.place line = c.index-as_slice-place.is
     ∙ ap (λ xs. get_or xs c.args.place line) c.as_slice.ensures in
-    ap (λ (l : Line). length l.coefs) is ∙ (t.lines c.args.place line c.requires.chosen.0).width ∙ sym t.width
+    ap (λ (l : TableLine). length l.coefs) is ∙ (t.lines c.args.place line c.requires.chosen.0).width ∙ sym t.width
 
 pub verdict-requires-clause-few : goal.verdict-requires-clause-few
 verdict-requires-clause-few c =
@@ -95,7 +95,7 @@ exchange_classed-requires-clause-not_zero c = λ left h.
     ∙ get_or_from_slice_get table.lines place left line h in
     let passes = (place_passes (λ (j : ℕ). int_lt (pos 0) (get_or line.coefs j (pos 0))) (λ (j : ℕ). slice_index
     table.nonbasic j) (length table.nonbasic) column (sym c.entering.ensures.choice ∙ c.in-Some.is)).1 in
-    subst (λ (l : Line). ¬ (coef_at column l ≡ pos 0)) same (not_zero (coef_at column line) passes)
+    subst (λ (l : TableLine). ¬ (coef_at column l ≡ pos 0)) same (not_zero (coef_at column line) passes)
 
 -- the exchange
 pub returns-in-Some-2 : goal.returns-in-Some-2

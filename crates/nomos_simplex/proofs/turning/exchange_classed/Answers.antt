@@ -6,7 +6,7 @@ use Rattle.nomos_simplex.specs.Exchange.{exchanged}
 use Rattle.nomos_simplex.specs.Sizes.{IsLine, IsTable}
 use Rattle.nomos_simplex.specs.mirror.Classes.{Fit, StandsFor}
 use Rattle.nomos_simplex.specs.mirror.Keeping.{IsKeptOrLarge}
-use Rattle.nomos_simplex.specs.declared.table.Line.{Line}
+use Rattle.nomos_simplex.specs.declared.table.TableLine.{TableLine}
 use Rattle.nomos_simplex.specs.declared.table.Table.{Table}
 use Rattle.nomos_simplex.proofs.ClassExchangeLemmas.{fit-exchanged}
 use Rattle.nomos_simplex.proofs.ClassLemmas.{no_line}

@@ -5,7 +5,7 @@ use Rattle.std.proofs.lemmas.Int.{to_z-of_z}
 use Rattle.std.proofs.lemmas.List.{get_or_default, get_or-set_same, get_or-set_other, length-set}
 use Rattle.nomos_simplex.specs.Exchange.{coef_at}
 use Rattle.nomos_simplex.specs.Nearest.{line_at}
-use Rattle.nomos_simplex.specs.declared.table.Line.{Line}
+use Rattle.nomos_simplex.specs.declared.table.TableLine.{TableLine}
 use Rattle.nomos_simplex.proofs.ClassLemmas.{no_line}
 use Rattle.nomos_simplex.proofs.NumberLemmas.{number_back}
 use Rattle.nomos_simplex.proofs.turning.raise.Goals as goal
@@ -24,7 +24,7 @@ loop-i-preserved c =
     let z = to_z w128 (of_z w128 c.risen.result) in
     let at : get_or lines i line ≡ line_at lines i = get_or_default lines i line no_line
     (omega (arith, c.requires.long, so_far.long, within)) in
-    let coefs = c.as_slice.ensures ∙ ap (λ (l : Line). l.coefs) at in
+    let coefs = c.as_slice.ensures ∙ ap (λ (l : TableLine). l.coefs) at in
     let numbers = c.requires.lines i no_line (omega (arith, c.requires.long, so_far.long, within)) in
     let before = to_z-of_z w128 (get_or over i (pos 0)) fits ∙ so_far.rest i (omega arith) in
     let coef = ap (λ cs. to_z w128 (of_z w128 (get_or cs c.args.column (pos 0)))) coefs

@@ -9,7 +9,7 @@ use Rattle.nomos_simplex.specs.Sizes.{HasNumbers, IsTable}
 use Rattle.nomos_simplex.specs.Tables.{bound_of}
 use Rattle.nomos_simplex.specs.mirror.Classes.{Fit, StandsFor, column_at, stepped}
 use Rattle.nomos_simplex.specs.mirror.Keeping.{over_of}
-use Rattle.nomos_simplex.specs.declared.table.Line.{Line}
+use Rattle.nomos_simplex.specs.declared.table.TableLine.{TableLine}
 use Rattle.nomos_simplex.specs.declared.table.Table.{Table}
 use Rattle.nomos_simplex.proofs.ClassStepLemmas.{step-stands}
 use Rattle.nomos_simplex.proofs.KeepingLemmas.{written}
@@ -24,7 +24,7 @@ raise-requires-clause-column c =
     let table = c.args.classed.kept.table in
     let j = c.args.column in
     let t = kept-is_table rows c.args.classed c.requires.kept in
-    subst (All (λ (line : Line). j < length line.coefs)) (sym c.as_slice-2.ensures)
+    subst (All (λ (line : TableLine). j < length line.coefs)) (sym c.as_slice-2.ensures)
     (λ k d h. let line = t.lines k d h in omega (arith, line.width, t.width, c.requires.column))
 
 pub raise-requires-clause-lines : goal.raise-requires-clause-lines

@@ -1,6 +1,6 @@
 use Rattle.std.proofs.Common.{◌≡◌, ◌≤◌, ◌<◌, ◌∙◌, ℕ, Some, false, length, sym, arith}
 use Rattle.nomos_slots.specs.Cells.{cell_at, home, is_of}
-use Rattle.nomos_slots.specs.declared.cells.Named.{Named}
+use Rattle.nomos_slots.specs.declared.cells.NamedVariable.{NamedVariable}
 use Rattle.nomos_slots.proofs.ProbeLemmas.{none-past, none-there}
 use Rattle.nomos_slots.proofs.cells.place_in.Goals as goal
 
@@ -14,7 +14,7 @@ returns-in_default c =
 pub returns : goal.returns
 returns c =
     let cells = c.args.cells.now.now in
-    let others : (i : ℕ) (e : Named) → home c.args.homes c.args.process c.args.variable ≤ i → i < length cells
+    let others : (i : ℕ) (e : NamedVariable) → home c.args.homes c.args.process c.args.variable ≤ i → i < length cells
     → cell_at cells i ≡ Some e → is_of c.args.process c.args.variable e ≡ false =
     λ i e from within. c.loop-at.invariant i e from (omega (arith, c.len-at-end.ensures))
     in

@@ -2,7 +2,7 @@ use Rattle.std.proofs.Common.{◌≡◌, ◌<◌, ◌≤◌, true, List, length,
 use Rattle.std.specs.Option.{is_some}
 use Rattle.std.proofs.lemmas.Bool.{both_ways}
 use Rattle.nomos_slots.specs.Cells.{Cell, IsProbed, entries, home_of, is_of, name_in}
-use Rattle.nomos_slots.specs.declared.cells.Named.{Named}
+use Rattle.nomos_slots.specs.declared.cells.NamedVariable.{NamedVariable}
 use Rattle.nomos_slots.proofs.CellLemmas.{same-entry, some-within}
 use Rattle.nomos_slots.proofs.EntryLemmas.{entries-renamed, names-come, nothing-named, others-apart, probed-come}
 use Rattle.nomos_slots.proofs.ProbeLemmas.{same-home}
@@ -42,7 +42,8 @@ returns-clause-names c p v =
     ap (λ (cs : List Cell). name_in cs p v) c.put.ensures.now
     ∙ names-come homes cells at e probed l (others-apart homes e.process e.variable at cells old probed is of)
     (λ f has.
-    subst (λ (k : Named). is_of e.process e.variable k ≡ true) (same-entry cells at at old f refl is has) of) p v
+    subst (λ (k : NamedVariable). is_of e.process e.variable k ≡ true) (same-entry cells at at old f refl is has) of) p
+    v
 
 pub returns-clause-entries : goal.returns-clause-entries
 returns-clause-entries c =

@@ -1,7 +1,7 @@
 use Rattle.std.proofs.Common.{◌<◌, ap, ◌∙◌, length, get_or, refl, arith}
 use Rattle.std.specs.Vec.{vec_len}
 use Rattle.std.proofs.Math.Seq.{map-set_same}
-use Rattle.nomos_slots.specs.declared.column.Entry.{Entry}
+use Rattle.nomos_slots.specs.declared.column.Logged.{Logged}
 use Rattle.nomos_slots.proofs.LogLemmas.{kept_more}
 use Rattle.nomos_slots.proofs.column.release.Goals as goal
 
@@ -17,7 +17,8 @@ loop-saved-preserved g c =
     omega (arith, ap (λ (s : _ × _). s.0) c.saved-item.is, c.loop-saved.invariant.len, c.loop-saved.items.ok.0) in
     record {
       records =
-          map-set_same (λ (e : Entry _). e.item) es saved.0 _ _ (ap (λ (e : Entry _). e.item) c.index_mut.ensures.value)
+          map-set_same (λ (e : Logged _). e.item) es saved.0 _ _
+          (ap (λ (e : Logged _). e.item) c.index_mut.ensures.value)
           ∙ c.loop-saved.invariant.records;
       kept = kept_more es log i saved _ l c.saved-item.is within refl c.loop-saved.invariant.kept;
       len = c.loop-saved.invariant.len;

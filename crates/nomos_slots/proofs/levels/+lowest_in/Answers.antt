@@ -1,7 +1,7 @@
 use Rattle.std.proofs.Common.{◌≡◌, ◌*◌, ◌+◌, ◌/◌, ◌%◌, ◌∷◌, subst, sym, ap, ◌∙◌, get_or, Some, None}
 use Rattle.std.proofs.lemmas.List.{get_or_default}
 use Rattle.nomos_slots.specs.Levels.{AreLevels, bit_in, ground, has_bit}
-use Rattle.nomos_slots.specs.Lowest.{IsLowest}
+use Rattle.nomos_slots.specs.LowestPlace.{IsLowest}
 use Rattle.nomos_slots.proofs.LevelLemmas.{lowest_in-none, lowest_in-some, lt-from_word, some-above}
 use Rattle.nomos_slots.proofs.levels.+lowest_in.Goals as goal
 

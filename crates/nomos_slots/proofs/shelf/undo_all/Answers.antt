@@ -2,7 +2,7 @@ use Rattle.std.proofs.Common.{◌<◌, All, ◌∙◌, sym, subst}
 use Rattle.std.specs.Vec.{vec_len}
 use Rattle.std.proofs.lemmas.List.Elements.{All-take}
 use Rattle.nomos_slots.specs.Rows.{place_of, rows_of}
-use Rattle.nomos_slots.specs.declared.shelf.Step.{Step}
+use Rattle.nomos_slots.specs.declared.shelf.ShelfStep.{ShelfStep}
 use Rattle.nomos_slots.proofs.RowLemmas.{covered-popped, undo-popped}
 use Rattle.nomos_slots.proofs.shelf.undo_all.Goals as goal
 
@@ -15,8 +15,8 @@ loop-step-preserved g c =
     let rows = c.loop-step.rows.items in
     record {
       rows = undo-popped log rest e (rows_of rows) _ split c.undo_step.ensures.rows ∙ c.loop-step.invariant.rows;
-      below = subst (All (λ (s : Step _). place_of s < vec_len c.args.rows.now)) (sym c.in-Some.ensures.rest)
-          (All-take (λ (s : Step _). place_of s < vec_len c.args.rows.now) _ log c.loop-step.invariant.below);
+      below = subst (All (λ (s : ShelfStep _). place_of s < vec_len c.args.rows.now)) (sym c.in-Some.ensures.rest)
+          (All-take (λ (s : ShelfStep _). place_of s < vec_len c.args.rows.now) _ log c.loop-step.invariant.below);
       covered = covered-popped rows c.undo_step.new.rows.items log rest e split c.loop-step.invariant.covered
           c.undo_step.ensures.freed;
       len = c.undo_step.ensures.len ∙ c.loop-step.invariant.len;

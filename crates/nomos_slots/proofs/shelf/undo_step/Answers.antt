@@ -1,7 +1,7 @@
 use Rattle.std.proofs.Common.{◌<◌, sym, ap, ◌∙◌, refl, length, set, arith}
 use Rattle.std.specs.List.{remove}
 use Rattle.nomos_slots.specs.Rows.{has_all, rows_of, undone, place_of}
-use Rattle.nomos_slots.specs.declared.shelf.Step.{Step}
+use Rattle.nomos_slots.specs.declared.shelf.ShelfStep.{ShelfStep}
 use Rattle.nomos_slots.proofs.RowLemmas.{row-read, rows-set, is_freed-set_same, freed-replaced}
 use Rattle.nomos_slots.proofs.shelf.undo_step.Goals as goal
 
@@ -14,7 +14,7 @@ returns-then-at-len-clause-rows g c =
     rows-set rows place _
     ∙ ap (set (rows_of rows) place) (c.remove-item.ensures.items
     ∙ ap (λ xs. remove xs at) (sym (row-read rows place _ l c.index_mut.ensures.value)))
-    ∙ ap (λ (e : Step _). undone e (rows_of rows)) (sym c.in-Added.is)
+    ∙ ap (λ (e : ShelfStep _). undone e (rows_of rows)) (sym c.in-Added.is)
 
 pub returns-then-at-len-clause-freed : goal.returns-then-at-len-clause-freed
 returns-then-at-len-clause-freed g c place freed =
@@ -28,7 +28,7 @@ returns-then-at-len-clause-freed g c place freed =
 pub returns-in-Replaced-clause-rows : goal.returns-in-Replaced-clause-rows
 returns-in-Replaced-clause-rows g c =
     let rows = c.args.rows.now.items in
-    rows-set rows c.in-Replaced.place _ ∙ ap (λ (e : Step _). undone e (rows_of rows)) (sym c.in-Replaced.is)
+    rows-set rows c.in-Replaced.place _ ∙ ap (λ (e : ShelfStep _). undone e (rows_of rows)) (sym c.in-Replaced.is)
 
 pub returns-in-Replaced-clause-freed : goal.returns-in-Replaced-clause-freed
 returns-in-Replaced-clause-freed g c place freed =

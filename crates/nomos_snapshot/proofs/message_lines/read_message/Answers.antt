@@ -1,7 +1,7 @@
 -- The words of a message come off one part after another.
 use Rattle.std.proofs.Common.{◌++◌, List, ℕ, ap, ◌∙◌}
 use Rattle.nomos_snapshot.specs.Line.{payload_words}
-use Rattle.nomos_snapshot.specs.mirror.Kinds.{head_words}
+use Rattle.nomos_snapshot.specs.mirror.LineKinds.{head_words}
 use Rattle.nomos_snapshot.proofs.MessageLemmas.{head-none, payload-none, purse-none}
 use Rattle.nomos_snapshot.proofs.message_lines.read_message.Goals as goal
 

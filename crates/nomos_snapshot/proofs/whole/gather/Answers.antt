@@ -3,7 +3,7 @@ use Rattle.std.proofs.Common.{◌∷◌, ap, arith, length, rules, subst}
 use Rattle.std.proofs.lemmas.List.{length-append}
 use Rattle.nomos_ir.specs.Naming.{NamesAreShort}
 use Rattle.nomos_ir.specs.declared.lists.ProgramLists.{ProgramLists}
-use Rattle.nomos_snapshot.specs.Told.{told}
+use Rattle.nomos_snapshot.specs.ToldLines.{told}
 use Rattle.nomos_snapshot.proofs.TextReadingLemmas.{bad-read, empty-text, line-read, short-read, unended-read, whole-read}
 use Rattle.nomos_snapshot.proofs.whole.gather.Goals as goal
 

@@ -2,7 +2,7 @@ use Rattle.std.proofs.Common.{◌≡◌, ◌<◌, ℕ, Bool, true, length, get_o
 use Rattle.nomos_ir.specs.declared.ids.TypeId.{TypeId}
 use Rattle.nomos_ir.specs.declared.ids.VarId.{VarId}
 use Rattle.nomos_typed.specs.Telling.{Tells}
-use Rattle.nomos_typed.specs.mirror.Told.{NameFits, amounts_in}
+use Rattle.nomos_typed.specs.mirror.ComparedWith.{NameFits, amounts_in}
 use Rattle.nomos_typed.proofs.TellLemmas.{tells-plain, tells-same, tells-through}
 use Rattle.nomos_typed.proofs.WalkLemmas.{SideBySide, order-long, order-side, paired-walk, side-next, side-none, side-paired}
 use Rattle.nomos_typed.proofs.fitting.channels_fit.Goals as goal

@@ -1,7 +1,7 @@
 use Rattle.std.proofs.Common.{◌-◌, ◌≤◌, true, length}
 use Rattle.nomos_equality.specs.Comparing.{HasCompared}
 use Rattle.nomos_typed.specs.Telling.{Tells}
-use Rattle.nomos_typed.specs.mirror.Told.{NameFits, amounts_in, program_of}
+use Rattle.nomos_typed.specs.mirror.ComparedWith.{NameFits, amounts_in, program_of}
 use Rattle.nomos_typed.proofs.WalkLemmas.{SideBySide}
 use Rattle.nomos_typed.proofs.fitting.channels_fit.Given as goal
 

@@ -2,7 +2,7 @@ use Rattle.std.proofs.Common.{List, All, refl, subst, arith}
 use Rattle.std.proofs.lemmas.List.{take_all}
 use Rattle.nomos_machine.specs.declared.object.Object.{Object}
 use Rattle.nomos_typed.specs.Founded.{ObjectFounded}
-use Rattle.nomos_typed.specs.mirror.Told.{program_of}
+use Rattle.nomos_typed.specs.mirror.ComparedWith.{program_of}
 use Rattle.nomos_typed.proofs.TellLemmas.{all-more}
 use Rattle.nomos_typed.proofs.founded.are_all_founded.Goals as goal
 

@@ -1,6 +1,6 @@
 use Rattle.std.proofs.Common.{All, take}
 use Rattle.nomos_typed.specs.Founded.{ObjectFounded}
-use Rattle.nomos_typed.specs.mirror.Told.{program_of}
+use Rattle.nomos_typed.specs.mirror.ComparedWith.{program_of}
 use Rattle.nomos_typed.proofs.founded.are_all_founded.Given as goal
 
 -- those so far are

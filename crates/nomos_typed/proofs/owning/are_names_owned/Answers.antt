@@ -7,7 +7,7 @@ use Rattle.nomos_typed.specs.declared.tie.Tie.{Tie}
 use Rattle.nomos_typed.specs.declared.tie.Tie.TheVariants as tie
 use Rattle.nomos_typed.specs.declared.told.Told.{Told}
 use Rattle.nomos_typed.specs.mirror.Ties.{AreTied}
-use Rattle.nomos_typed.specs.mirror.Told.{AreInOrder, IsTold}
+use Rattle.nomos_typed.specs.mirror.ComparedWith.{AreInOrder, IsTold}
 use Rattle.nomos_typed.proofs.TieLemmas.{owned-exact}
 use Rattle.nomos_typed.proofs.owning.are_names_owned.Goals as goal
 

@@ -2,9 +2,9 @@ use Rattle.std.proofs.Common.{Bool, List, true, take, All, refl, subst, arith}
 use Rattle.std.proofs.lemmas.List.{take_all}
 use Rattle.std.proofs.lemmas.List.Elements.{All-nil}
 use Rattle.nomos_machine.specs.declared.object.Object.{Object}
-use Rattle.nomos_typed.specs.Typed.{ObjectPlaced}
+use Rattle.nomos_typed.specs.StateTyped.{ObjectPlaced}
 use Rattle.nomos_typed.specs.Telling.{Tells}
-use Rattle.nomos_typed.specs.mirror.Told.{acceptance_of, amounts_in}
+use Rattle.nomos_typed.specs.mirror.ComparedWith.{acceptance_of, amounts_in}
 use Rattle.nomos_typed.proofs.TellLemmas.{all-more, not-all, tells-plain, tells-same, tells-through}
 use Rattle.nomos_typed.proofs.placing.all_placed.Goals as goal
 

@@ -1,8 +1,8 @@
 use Rattle.std.proofs.Common.{true, take, All}
 use Rattle.nomos_equality.specs.Comparing.{HasCompared}
-use Rattle.nomos_typed.specs.Typed.{ObjectPlaced}
+use Rattle.nomos_typed.specs.StateTyped.{ObjectPlaced}
 use Rattle.nomos_typed.specs.Telling.{Tells}
-use Rattle.nomos_typed.specs.mirror.Told.{acceptance_of, program_of, amounts_in}
+use Rattle.nomos_typed.specs.mirror.ComparedWith.{acceptance_of, program_of, amounts_in}
 use Rattle.nomos_typed.proofs.placing.all_placed.Given as goal
 
 -- the processes so far stand at their places where the amounts are worth the same

@@ -6,7 +6,7 @@ use Rattle.nomos_ir.specs.declared.ids.TypeId.{TypeId}
 use Rattle.nomos_ir.specs.declared.ids.VarId.{VarId}
 use Rattle.nomos_typed.specs.Telling.{Tells}
 use Rattle.nomos_typed.specs.mirror.AtPlaces.{HasChannels, is_reference}
-use Rattle.nomos_typed.specs.mirror.Told.{IsTypeIn, NameFits, amounts_in}
+use Rattle.nomos_typed.specs.mirror.ComparedWith.{IsTypeIn, NameFits, amounts_in}
 use Rattle.nomos_typed.proofs.PlacingLemmas.{channels-split, others-ascending, references-ascending}
 use Rattle.nomos_typed.proofs.TellLemmas.{tells-same, tells-through}
 use Rattle.nomos_typed.proofs.placing.has_channels.Goals as goal

@@ -2,9 +2,9 @@ use Rattle.std.proofs.Common.{true, refl, IfOk, subst, sym}
 use Rattle.nomos_machine.specs.TypedState.{HasVariables}
 use Rattle.nomos_machine.specs.declared.object.Object.{Object}
 use Rattle.nomos_typed.specs.Telling.{Tells}
-use Rattle.nomos_typed.specs.Typed.{ObjectPlaced}
+use Rattle.nomos_typed.specs.StateTyped.{ObjectPlaced}
 use Rattle.nomos_typed.specs.mirror.AtPlaces.{ObjectIsKnown}
-use Rattle.nomos_typed.specs.mirror.Told.{acceptance_of, amounts_in}
+use Rattle.nomos_typed.specs.mirror.ComparedWith.{acceptance_of, amounts_in}
 use Rattle.nomos_typed.proofs.TellLemmas.{tells-plain}
 use Rattle.nomos_typed.proofs.placing.is_object_placed.Goals as goal
 

@@ -3,9 +3,9 @@ use Rattle.std.proofs.lemmas.Result.{IfOk-weaker}
 use Rattle.nomos_ir.specs.declared.ids.VarId.{VarId}
 use Rattle.nomos_places.specs.declared.place.Place.{Place}
 use Rattle.nomos_typed.specs.Telling.{Tells}
-use Rattle.nomos_typed.specs.Typed.{IsPlaced}
+use Rattle.nomos_typed.specs.StateTyped.{IsPlaced}
 use Rattle.nomos_typed.specs.mirror.AtPlaces.{HasChannels, HasPlainly}
-use Rattle.nomos_typed.specs.mirror.Told.{NameFits, acceptance_of, amounts_in}
+use Rattle.nomos_typed.specs.mirror.ComparedWith.{NameFits, acceptance_of, amounts_in}
 use Rattle.nomos_typed.proofs.LeadingLemmas.{not-true}
 use Rattle.nomos_typed.proofs.PlacingLemmas.{nowhere-placed, place-kinds, place-lists, place-offers, place-types, placed-exact}
 use Rattle.nomos_typed.proofs.TellLemmas.{tells-same, tells-through}

@@ -13,8 +13,8 @@ use Rattle.nomos_typed.specs.declared.leading.Led.{Led}
 use Rattle.nomos_typed.specs.declared.sections.Talk.{Talk}
 use Rattle.nomos_typed.specs.declared.told.Told.{Told}
 use Rattle.nomos_typed.specs.mirror.Leading.{AreLed, led_of, onward_of}
-use Rattle.nomos_typed.specs.mirror.Talks.{talks_at_l}
-use Rattle.nomos_typed.specs.mirror.Told.{AreInOrder, IsTold}
+use Rattle.nomos_typed.specs.mirror.TypedTalks.{talks_at_l}
+use Rattle.nomos_typed.specs.mirror.ComparedWith.{AreInOrder, IsTold}
 use Rattle.nomos_typed.proofs.SectionLemmas.{sections-exact}
 use Rattle.nomos_typed.proofs.sections.are_in_sections.Goals as goal
 

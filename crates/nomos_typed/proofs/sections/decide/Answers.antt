@@ -1,6 +1,6 @@
 use Rattle.std.proofs.Common.{Option, IfSome, refl, subst}
 use Rattle.nomos_typed.specs.declared.sections.Decided.{Decided}
-use Rattle.nomos_typed.specs.mirror.Talks.{IsDecided}
+use Rattle.nomos_typed.specs.mirror.TypedTalks.{IsDecided}
 use Rattle.nomos_typed.proofs.TalkLemmas.{back-alike}
 use Rattle.nomos_typed.proofs.sections.decide.Goals as goal
 

@@ -2,9 +2,9 @@ use Rattle.std.proofs.Common.{◌↔◌, List, All, IsTrue, subst, sym}
 use Rattle.nomos_ir.specs.declared.amount.Amount.{Amount}
 use Rattle.nomos_ir.specs.declared.lists.ProgramLists.{ProgramLists}
 use Rattle.nomos_equality.specs.Answer.{SameWorth}
-use Rattle.nomos_sync.specs.SyncAnswer.{AnswersSynchronizing, IsSynchronizingExact}
-use Rattle.nomos_sync.specs.declared.synchronizing.Synced.{Synced}
-use Rattle.nomos_sync.specs.declared.synchronizing.Synced.TheVariants as synced
+use Rattle.nomos_equality.specs.SyncAnswer.{AnswersSynchronizing, IsSynchronizingExact}
+use Rattle.nomos_equality.specs.declared.synchronizing.Synced.{Synced}
+use Rattle.nomos_equality.specs.declared.synchronizing.Synced.TheVariants as synced
 use Rattle.nomos_types.specs.Acceptance.{IsAmountOf}
 use Rattle.nomos_typed.proofs.TalkLemmas.{stand-amounts}
 use Rattle.nomos_typed.proofs.sections.is_back.Goals as goal

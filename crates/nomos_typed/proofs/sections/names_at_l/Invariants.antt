@@ -1,5 +1,5 @@
 use Rattle.std.proofs.Common.{◌≡◌, filter, map, take}
-use Rattle.nomos_typed.specs.mirror.Talks.{talks_at_l}
+use Rattle.nomos_typed.specs.mirror.TypedTalks.{talks_at_l}
 use Rattle.nomos_typed.proofs.sections.names_at_l.Given as goal
 
 -- of those so far

@@ -2,7 +2,7 @@ use Rattle.std.proofs.Common.{◌≡◌, ◌<◌, ◌↔◌, ℕ, List, Contains
 use Rattle.std.proofs.lemmas.List.{get_or_default, take_all}
 use Rattle.nomos_typed.specs.declared.sections.Decided.{Decided}
 use Rattle.nomos_typed.specs.declared.sections.Talk.{Talk}
-use Rattle.nomos_typed.specs.mirror.Talks.{HasBack}
+use Rattle.nomos_typed.specs.mirror.TypedTalks.{HasBack}
 use Rattle.nomos_typed.proofs.TalkLemmas.{back-none, decided-here, names-more}
 use Rattle.nomos_typed.proofs.sections.names_back.Goals as goal
 

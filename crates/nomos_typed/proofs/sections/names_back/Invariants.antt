@@ -1,5 +1,5 @@
 use Rattle.std.proofs.Common.{◌↔◌, ℕ, take, Contains, IfSome}
-use Rattle.nomos_typed.specs.mirror.Talks.{HasBack, IsDecided}
+use Rattle.nomos_typed.specs.mirror.TypedTalks.{HasBack, IsDecided}
 use Rattle.nomos_typed.proofs.sections.names_back.Given as goal
 
 -- those of the talks so far

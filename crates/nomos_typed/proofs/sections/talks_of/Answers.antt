@@ -1,7 +1,7 @@
 use Rattle.std.proofs.Common.{◌≡◌, ◌<◌, List, length, get_or, subst, arith}
 use Rattle.std.proofs.lemmas.List.{get_or_default, take_all}
 use Rattle.nomos_typed.specs.declared.leading.Led.{Led}
-use Rattle.nomos_typed.specs.mirror.Talks.{AreTalks}
+use Rattle.nomos_typed.specs.mirror.TypedTalks.{AreTalks}
 use Rattle.nomos_typed.proofs.TalkLemmas.{gather-more, talks-none}
 use Rattle.nomos_typed.proofs.sections.talks_of.Goals as goal
 

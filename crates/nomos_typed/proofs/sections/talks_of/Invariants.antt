@@ -1,5 +1,5 @@
 use Rattle.std.proofs.Common.{take}
-use Rattle.nomos_typed.specs.mirror.Talks.{AreTalks}
+use Rattle.nomos_typed.specs.mirror.TypedTalks.{AreTalks}
 use Rattle.nomos_typed.proofs.sections.talks_of.Given as goal
 
 -- those of the names so far

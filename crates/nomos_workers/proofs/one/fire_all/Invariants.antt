@@ -1,6 +1,6 @@
 use Rattle.std.proofs.Common.{◌≡◌}
-use Rattle.nomos_workers.specs.mirror.Steps.{HasMade}
-use Rattle.nomos_watch.specs.Watching.{IsWatched}
+use Rattle.nomos_workers.specs.mirror.WorkerSteps.{HasMade}
+use Rattle.nomos_ledger.specs.Watching.{IsWatched}
 use Rattle.nomos_workers.proofs.one.fire_all.Given as goal
 
 -- the firings so far are those of the policy, and the processes that may be ready cover the state

@@ -3,7 +3,7 @@ use Rattle.std.proofs.Common.{◌≡◌, List, [], ◌∷◌, refl, sym, ap, sub
 use Rattle.nomos_grammar.specs.declared.part.Nonterminal.TheVariants.{File}
 use Rattle.nomos_grammar.specs.declared.part.Part.{Part}
 use Rattle.nomos_grammar.specs.declared.part.Part.TheVariants as part
-use Rattle.nomos_grammar.specs.Counting.{Counts, nothing_counted}
+use Rattle.nomos_grammar.specs.CountedPlaces.{Counts, nothing_counted}
 use Rattle.nomos_grammar.specs.Producing.{file}
 use Rattle.nomos_grammar.specs.mirror.ReaderStates.{IsReady, HasRead}
 use Rattle.nomos_grammar.specs.mirror.Tallies.{counts_of}

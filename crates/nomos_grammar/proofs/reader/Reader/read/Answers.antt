@@ -1,8 +1,8 @@
 -- The token breaks a rule, or keeps to all.
 use Rattle.std.proofs.Common.{◌≡◌, ◌≤◌, true, false, [], ◌∷◌, ◌++◌, Option, sym, subst, ◌∙◌}
-use Rattle.nomos_syntax.specs.Limits.{node_limit}
+use Rattle.nomos_syntax.specs.TextLimits.{node_limit}
 use Rattle.nomos_grammar.specs.declared.offence.Which.{Which}
-use Rattle.nomos_grammar.specs.Counting.{Counts}
+use Rattle.nomos_grammar.specs.CountedPlaces.{Counts}
 use Rattle.nomos_grammar.specs.Offence.{nodes_before, Keeps}
 use Rattle.nomos_grammar.specs.mirror.ReaderStates.{IsReady, HasRead, PassesItself}
 use Rattle.nomos_grammar.specs.mirror.Tallies.{counts_of}

@@ -5,7 +5,7 @@ use Rattle.nomos_machine.specs.declared.object.Object.TheVariants as object
 use Rattle.nomos_index.specs.Indexed.{Indexed, held_now, state_of}
 use Rattle.nomos_index.specs.Looked.{ObjectIsAt, lists_at, values_at}
 use Rattle.nomos_index.specs.Objects.{process_held}
-use Rattle.nomos_index.specs.Telling.{DoesAt}
+use Rattle.nomos_index.specs.NameUses.{DoesAt}
 use Rattle.nomos_index.specs.declared.kept.Kept.{Kept}
 use Rattle.nomos_index.proofs.TellLemmas.{told-does}
 use Rattle.nomos_index.proofs.inside.Inside.bases.Goals as goal

@@ -4,7 +4,7 @@ use Rattle.nomos_ir.specs.declared.ids.VarId.{VarId}
 use Rattle.nomos_machine.specs.declared.object.Object.TheVariants as object
 use Rattle.nomos_parts.specs.SmallChanges.{process_born, with_object}
 use Rattle.nomos_slots.specs.Cells.{name_in}
-use Rattle.nomos_index.specs.Coming.{name_with}
+use Rattle.nomos_index.specs.ObjectsCome.{name_with}
 use Rattle.nomos_index.specs.Indexed.{Indexed}
 use Rattle.nomos_index.specs.Objects.{AscendsIf, ValueRow}
 use Rattle.nomos_index.proofs.AgainLemmas.{moved-marks, moved-state, on_any_err}

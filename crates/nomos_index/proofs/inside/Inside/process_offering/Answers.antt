@@ -1,7 +1,7 @@
 use Rattle.std.proofs.Common.{Bool, None, Some, cond, sym, ap, ◌∙◌, subst, eq-eqb}
 use Rattle.std.proofs.lemmas.Option.{MatchOption-at_some}
 use Rattle.std.specs.Option.{option_map}
-use Rattle.nomos_deeds.specs.Seen.{seen_process}
+use Rattle.nomos_deeds.specs.SeenObjects.{seen_process}
 use Rattle.nomos_machine.specs.Objects.{object_at}
 use Rattle.nomos_index.specs.Indexed.{Indexed, held_now, state_of}
 use Rattle.nomos_index.specs.Looked.{ObjectIsAt, lists_at, values_at}

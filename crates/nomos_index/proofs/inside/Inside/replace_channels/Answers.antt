@@ -4,7 +4,7 @@ use Rattle.nomos_ir.specs.Bindings.{bound_to}
 use Rattle.nomos_ir.specs.declared.ids.VarId.{VarId}
 use Rattle.nomos_parts.specs.SmallChanges.{Becomes, with_channels}
 use Rattle.nomos_slots.specs.Cells.{name_in}
-use Rattle.nomos_index.specs.Coming.{name_with}
+use Rattle.nomos_index.specs.ObjectsCome.{name_with}
 use Rattle.nomos_index.specs.Indexed.{Indexed, held_now, state_of}
 use Rattle.nomos_index.specs.Looked.{ProcessIsAt}
 use Rattle.nomos_index.specs.declared.kept.Kept.TheVariants as kept

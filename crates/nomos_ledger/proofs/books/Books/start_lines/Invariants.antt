@@ -1,4 +1,4 @@
-use Rattle.nomos_ledger.specs.mirror.Lines.{Extends}
+use Rattle.nomos_ledger.specs.mirror.StartedLines.{Extends}
 use Rattle.nomos_ledger.proofs.LineLemmas.{SoFar}
 use Rattle.nomos_ledger.proofs.books.Books.start_lines.Given as goal
 

@@ -3,7 +3,7 @@ use Rattle.std.specs.String.{string_bytes}
 use Rattle.std.proofs.lemmas.List.{take-map}
 use Rattle.std.proofs.lemmas.List.Elements.{All-take}
 use Rattle.nomos_script.specs.ScriptNames.{IsScriptName}
-use Rattle.nomos_ledger.specs.mirror.Names.{contract_at}
+use Rattle.nomos_ledger.specs.mirror.ContractNames.{contract_at}
 use Rattle.nomos_ledger.proofs.contract_names.ContractNames.truncate.Goals as goal
 
 pub returns : goal.returns

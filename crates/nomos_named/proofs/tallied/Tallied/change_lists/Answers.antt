@@ -1,5 +1,5 @@
 use Rattle.std.proofs.Common.{refl}
-use Rattle.nomos_deeds.specs.Seen.{seen_process}
+use Rattle.nomos_deeds.specs.SeenObjects.{seen_process}
 use Rattle.nomos_machine.specs.State.{process_at}
 use Rattle.nomos_parts.specs.SmallChanges.{with_list_change}
 use Rattle.nomos_named.proofs.KeepLemmas.{carries-tallied, marked-kept, seen-there}

@@ -1,5 +1,5 @@
 use Rattle.std.proofs.Common.{◌∙◌}
-use Rattle.nomos_deeds.specs.Seen.{seen_process}
+use Rattle.nomos_deeds.specs.SeenObjects.{seen_process}
 use Rattle.nomos_machine.specs.State.{process_at}
 use Rattle.nomos_named.proofs.KeepLemmas.{marked-kept, replaced-tallied, replaced-there, seen-there}
 use Rattle.nomos_named.proofs.tallied.Tallied.replace_channels.Goals as goal

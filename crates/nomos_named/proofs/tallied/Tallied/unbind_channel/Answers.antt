@@ -1,12 +1,12 @@
 use Rattle.std.proofs.Common.{[], ℕ, Option, subst}
 use Rattle.std.specs.Option.{option_to_list}
-use Rattle.nomos_deeds.specs.Seen.{seen_process}
+use Rattle.nomos_deeds.specs.SeenObjects.{seen_process}
 use Rattle.nomos_machine.specs.Revised.{without_channel}
 use Rattle.nomos_machine.specs.State.{process_at}
 use Rattle.nomos_ir.specs.Bindings.{bound_to}
 use Rattle.nomos_tally.specs.Moving.{Moves}
 use Rattle.nomos_tally.specs.Tallying.{only}
-use Rattle.nomos_tally.specs.declared.tally.Doing.TheVariants as doing
+use Rattle.nomos_tally.specs.declared.tally.NameUse.TheVariants as doing
 use Rattle.nomos_tally.proofs.CountLaws.{unbinding-exchanges}
 use Rattle.nomos_named.proofs.KeepLemmas.{becomes-tallied, marked-kept, seen-there}
 use Rattle.nomos_named.proofs.tallied.Tallied.unbind_channel.Goals as goal

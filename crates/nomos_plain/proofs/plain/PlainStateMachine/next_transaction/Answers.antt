@@ -3,7 +3,7 @@ use Rattle.nomos_deeds.specs.Lowest.{FindsNext}
 use Rattle.nomos_deeds.specs.Readers.{IsTransaction}
 use Rattle.nomos_plain.specs.Parts.{object_in}
 use Rattle.nomos_plain.specs.Plain.{Plain}
-use Rattle.nomos_plain.specs.declared.object.PlainObject.{PlainObject}
+use Rattle.nomos_plain.specs.declared.plain_object.PlainObject.{PlainObject}
 use Rattle.nomos_plain.proofs.plain.PlainStateMachine.next_transaction.Goals as goal
 
 pub returns : goal.returns

@@ -3,7 +3,7 @@ use Rattle.std.specs.Option.{is_some}
 use Rattle.std.proofs.lemmas.Bool.{both_ways}
 use Rattle.nomos_slots.specs.Cells.{Cell, name_in}
 use Rattle.nomos_slots.specs.Marking.{Marking}
-use Rattle.nomos_slots.specs.declared.cells.Named.{Named}
+use Rattle.nomos_slots.specs.declared.cells.NamedVariable.{NamedVariable}
 use Rattle.nomos_slots.proofs.CellLemmas.{has-name}
 use Rattle.nomos_slots.proofs.EntryLemmas.{nothing-named}
 use Rattle.nomos_slots.proofs.ProbeLemmas.{filled-some}
@@ -28,5 +28,5 @@ returns c =
     let same : Some e ≡ Some found = sym is ∙ sym c.cell.ensures ∙ c.in-Some-cell.is in
     let k : e ≡ found = cc in
     sym (has-name cells c.args.process c.args.variable found.name c.self.invariant.probed.once
-    (c.in-Some.at, e, is, of, ap (λ (x : Named). x.name) k))
+    (c.in-Some.at, e, is, of, ap (λ (x : NamedVariable). x.name) k))
     ∙ ap (λ (m : Marking Cell). name_in m.now c.args.process c.args.variable) c.self.view_is

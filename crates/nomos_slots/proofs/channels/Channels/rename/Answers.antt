@@ -4,7 +4,7 @@ use Rattle.std.proofs.lemmas.List.{length-map}
 use Rattle.nomos_slots.specs.Marking.{Marking}
 use Rattle.nomos_slots.specs.Cells.{Cell, IsProbed, entries, name_in}
 use Rattle.nomos_slots.specs.Sweeps.{instead_of, renamed_cell}
-use Rattle.nomos_slots.specs.Tables.{IsMarkedTable}
+use Rattle.nomos_slots.specs.ChannelTables.{IsMarkedTable}
 use Rattle.nomos_slots.specs.declared.channels.Channels.TheInside.{Inside}
 use Rattle.nomos_slots.proofs.SweepLemmas.{entries-renamed_cells, names-renamed, probed-renamed}
 use Rattle.nomos_slots.proofs.channels.Channels.rename.Goals as goal

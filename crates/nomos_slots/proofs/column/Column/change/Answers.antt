@@ -4,7 +4,7 @@ use Rattle.std.proofs.lemmas.List.{length-map}
 use Rattle.nomos_slots.specs.Log.{mark_len, HasSeat}
 use Rattle.nomos_slots.proofs.SeatLemmas.{one-more, seat-there}
 use Rattle.nomos_slots.specs.Marking.{Marking}
-use Rattle.nomos_slots.specs.declared.column.Entry.{Entry}
+use Rattle.nomos_slots.specs.declared.column.Logged.{Logged}
 use Rattle.nomos_slots.proofs.MarkLemmas.{is_kept_read, records-set, IsSound_first, marked_first, IsSound_again, marked_again}
 use Rattle.nomos_slots.proofs.column.Column.change.Goals as goal
 
@@ -16,7 +16,7 @@ invariant_of-self g c =
     let log = s.log.items in
     let new = c.push_reserved.new.self.items in
     let old = c.index.result.now in
-    let e : Entry _ = record { item = c.args.item; kept = true } in
+    let e : Logged _ = record { item = c.args.item; kept = true } in
     let due = c.is_due.ensures.0 c.if-is_due.true in
     let l : at < length es = omega (arith, c.self.invariant.within, due.0) in
     let not = is_kept_read es at old l c.index.ensures ∙ due.1 in
@@ -29,7 +29,7 @@ invariant_of-self-else-is_due g c =
     let at = c.args.place in
     let es = s.items.items in
     let v = ap (λ (m : Marking _). length m.now) c.self.view_is in
-    let l : at < length es = omega (arith, v, c.requires.within, length-map es (λ (e : Entry _). e.item)) in
+    let l : at < length es = omega (arith, v, c.requires.within, length-map es (λ (e : Logged _). e.item)) in
     let read = is_kept_read es at c.index.result.now l c.index.ensures in
     IsSound_again es s.log.items s.marked at _ c.self.invariant read l
 
@@ -98,7 +98,7 @@ returns-then-is_due-clause-free g c =
       seats,
       len,
       more,
-      length-map es (λ (e : Entry _). e.item),
+      length-map es (λ (e : Logged _). e.item),
       c.push_reserved.ensures.len,
       c.push_reserved.ensures.capacity,
     )

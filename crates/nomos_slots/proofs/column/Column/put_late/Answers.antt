@@ -1,7 +1,7 @@
 use Rattle.std.proofs.Common.{◌<◌, sym, subst, ap, ◌∙◌, length, set, arith}
 use Rattle.std.proofs.lemmas.List.{length-map}
 use Rattle.nomos_slots.specs.Marking.{Marking}
-use Rattle.nomos_slots.specs.declared.column.Entry.{Entry}
+use Rattle.nomos_slots.specs.declared.column.Logged.{Logged}
 use Rattle.nomos_slots.proofs.MarkLemmas.{HasMarkedWithin, records-set, marked_again, IsSound_again, mark_len_fits}
 use Rattle.nomos_slots.proofs.SeatLemmas.{not_kept_past}
 use Rattle.nomos_slots.proofs.column.Column.put_late.Goals as goal
@@ -12,7 +12,7 @@ invariant_of-self g c =
     let at = c.args.place in
     let es = s.items.items in
     let v = ap (λ (m : Marking _). length m.now) c.self.view_is in
-    let l : at < length es = omega (arith, v, c.requires.within, length-map es (λ (e : Entry _). e.item)) in
+    let l : at < length es = omega (arith, v, c.requires.within, length-map es (λ (e : Logged _). e.item)) in
     let late = subst (λ (m : Marking _). HasMarkedWithin at m.marked) (sym c.self.view_is) c.requires.late in
     IsSound_again es s.log.items s.marked at _ c.self.invariant
     (not_kept_past es s.log.items s.marked at c.self.invariant

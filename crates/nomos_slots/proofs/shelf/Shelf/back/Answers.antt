@@ -1,7 +1,7 @@
 use Rattle.std.proofs.Common.{Some, List, sym, ap, ◌∙◌}
 use Rattle.nomos_slots.specs.Rows.{is_freed, undo}
 use Rattle.nomos_slots.specs.Shelving.{Shelving}
-use Rattle.nomos_slots.specs.declared.shelf.Row.{Row}
+use Rattle.nomos_slots.specs.declared.shelf.ShelfRow.{ShelfRow}
 use Rattle.nomos_slots.proofs.ShelfLemmas.{rows-cut, marked_in, is_freed-take}
 use Rattle.nomos_slots.proofs.shelf.Shelf.back.Goals as goal
 
@@ -10,7 +10,7 @@ undo_all-requires-clause-covered g c place freed =
     let s = c.self.inside in
     c.self.invariant.covered place
     (is_freed-take s.rows.items c.in-Some.len place
-    (sym (ap (λ (rs : List (Row _)). is_freed rs place) c.truncate.ensures.items) ∙ freed))
+    (sym (ap (λ (rs : List (ShelfRow _)). is_freed rs place) c.truncate.ensures.items) ∙ freed))
 
 pub returns-clause-now : goal.returns-clause-now
 returns-clause-now g c =

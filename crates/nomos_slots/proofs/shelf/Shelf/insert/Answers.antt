@@ -5,8 +5,8 @@ use Rattle.std.proofs.lemmas.Bool.{both_ways}
 use Rattle.std.proofs.Math.Seq.{map-set_same}
 use Rattle.nomos_slots.specs.Rows.{IsFree, rows_of, undone}
 use Rattle.nomos_slots.specs.Shelving.{Shelving}
-use Rattle.nomos_slots.specs.declared.shelf.Row.{Row}
-use Rattle.nomos_slots.specs.declared.shelf.Step.TheVariants as step
+use Rattle.nomos_slots.specs.declared.shelf.ShelfRow.{ShelfRow}
+use Rattle.nomos_slots.specs.declared.shelf.ShelfStep.TheVariants as step
 use Rattle.nomos_slots.proofs.RowLemmas.{row-read, rows-set}
 use Rattle.nomos_slots.proofs.ShelfLemmas.{free-from_seen, shelf-same, marked-free, shelf-logged, marked-logged_any, back-added, spares-more, below-not_free}
 use Rattle.nomos_slots.proofs.shelf.Shelf.insert.Goals as goal
@@ -20,7 +20,7 @@ invariant_of-self g c =
       arith,
       v,
       c.requires.within,
-      length-map s.rows.items (λ (r : Row _). r.items.items),
+      length-map s.rows.items (λ (r : ShelfRow _). r.items.items),
     ) in
     let bound = below-not_free s.rows s.log s.marked at c.self.invariant.within
     (λ free. absurd (both_ways _ c.if-not-free.true
@@ -38,7 +38,7 @@ invariant_of-self-else-not-free g c =
       arith,
       v,
       c.requires.within,
-      length-map s.rows.items (λ (r : Row _). r.items.items),
+      length-map s.rows.items (λ (r : ShelfRow _). r.items.items),
     ) in
     shelf-same s.rows.items s.log.items s.marked at c.index_mut.result.now _ c.self.invariant l
     c.index_mut.ensures.value refl
@@ -52,7 +52,7 @@ returns-then-not-free-clause-now g c =
       arith,
       v,
       c.requires.within,
-      length-map s.rows.items (λ (r : Row _). r.items.items),
+      length-map s.rows.items (λ (r : ShelfRow _). r.items.items),
     ) in
     let read = row-read s.rows.items at c.index_mut.result.now l c.index_mut.ensures.value in
     rows-set s.rows.items at _
@@ -69,12 +69,12 @@ returns-then-not-free-clause-marked g c =
       arith,
       v,
       c.requires.within,
-      length-map s.rows.items (λ (r : Row _). r.items.items),
+      length-map s.rows.items (λ (r : ShelfRow _). r.items.items),
     ) in
     let bound = below-not_free s.rows s.log s.marked at c.self.invariant.within
     (λ free. absurd (both_ways _ c.if-not-free.true
     (c.is_free-free.ensures.1 (subst (λ (m : Shelving _). IsFree m at) c.self.view_is free)))) in
-    let r : Row _ = record { items = c.put_in.new.items; freed = c.index_mut.result.now.freed } in
+    let r : ShelfRow _ = record { items = c.put_in.new.items; freed = c.index_mut.result.now.freed } in
     let read = row-read s.rows.items at c.index_mut.result.now l c.index_mut.ensures.value in
     let old = c.index_mut.result.now.items.items in
     let le : c.args.at ≤ length old = omega (
@@ -91,8 +91,8 @@ returns-then-not-free-clause-marked g c =
 
 pub returns-then-not-free-clause-freed : goal.returns-then-not-free-clause-freed
 returns-then-not-free-clause-freed g c =
-    map-set_same (λ (r : Row _). r.freed) c.self.inside.rows.items c.args.place _ _
-    (ap (λ (r : Row _). r.freed) c.index_mut.ensures.value)
+    map-set_same (λ (r : ShelfRow _). r.freed) c.self.inside.rows.items c.args.place _ _
+    (ap (λ (r : ShelfRow _). r.freed) c.index_mut.ensures.value)
     ∙ ap (λ (m : Shelving _). m.freed) c.self.view_is
 
 pub returns-then-not-free-clause-spares : goal.returns-then-not-free-clause-spares
@@ -104,9 +104,9 @@ returns-then-not-free-clause-spares g c other =
       arith,
       v,
       c.requires.within,
-      length-map s.rows.items (λ (r : Row _). r.items.items),
+      length-map s.rows.items (λ (r : ShelfRow _). r.items.items),
     ) in
-    let r : Row _ = record { items = c.put_in.new.items; freed = c.index_mut.result.now.freed } in
+    let r : ShelfRow _ = record { items = c.put_in.new.items; freed = c.index_mut.result.now.freed } in
     let e = spares-more s.rows.items at 1 other c.index_mut.result.now r l c.index_mut.ensures.value (omega arith) in
     let w = ap (λ (m : Shelving _). slice_index m.spares other) c.self.view_is in
     omega (arith, e, w)
@@ -120,7 +120,7 @@ returns-else-not-free-clause-now g c =
       arith,
       v,
       c.requires.within,
-      length-map s.rows.items (λ (r : Row _). r.items.items),
+      length-map s.rows.items (λ (r : ShelfRow _). r.items.items),
     ) in
     let read = row-read s.rows.items at c.index_mut.result.now l c.index_mut.ensures.value in
     rows-set s.rows.items at _
@@ -137,7 +137,7 @@ returns-else-not-free-clause-marked g c =
       arith,
       v,
       c.requires.within,
-      length-map s.rows.items (λ (r : Row _). r.items.items),
+      length-map s.rows.items (λ (r : ShelfRow _). r.items.items),
     ) in
     let free = free-from_seen s.rows s.log s.marked at c.self.invariant.within
     (subst (λ (m : Shelving _). IsFree m at) (sym c.self.view_is) (c.is_free-free.ensures.0 c.if-not-free.false)) in
@@ -146,8 +146,8 @@ returns-else-not-free-clause-marked g c =
 
 pub returns-else-not-free-clause-freed : goal.returns-else-not-free-clause-freed
 returns-else-not-free-clause-freed g c =
-    map-set_same (λ (r : Row _). r.freed) c.self.inside.rows.items c.args.place _ _
-    (ap (λ (r : Row _). r.freed) c.index_mut.ensures.value)
+    map-set_same (λ (r : ShelfRow _). r.freed) c.self.inside.rows.items c.args.place _ _
+    (ap (λ (r : ShelfRow _). r.freed) c.index_mut.ensures.value)
     ∙ ap (λ (m : Shelving _). m.freed) c.self.view_is
 
 pub returns-else-not-free-clause-spares : goal.returns-else-not-free-clause-spares
@@ -159,9 +159,9 @@ returns-else-not-free-clause-spares g c other =
       arith,
       v,
       c.requires.within,
-      length-map s.rows.items (λ (r : Row _). r.items.items),
+      length-map s.rows.items (λ (r : ShelfRow _). r.items.items),
     ) in
-    let r : Row _ = record { items = c.put_in.new.items; freed = c.index_mut.result.now.freed } in
+    let r : ShelfRow _ = record { items = c.put_in.new.items; freed = c.index_mut.result.now.freed } in
     let e = spares-more s.rows.items at 1 other c.index_mut.result.now r l c.index_mut.ensures.value (omega arith) in
     let w = ap (λ (m : Shelving _). slice_index m.spares other) c.self.view_is in
     omega (arith, e, w)

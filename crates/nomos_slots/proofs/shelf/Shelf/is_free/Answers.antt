@@ -5,7 +5,7 @@ use Rattle.std.specs.Option.{unwrap_or}
 use Rattle.nomos_slots.specs.Log.{mark_len}
 use Rattle.nomos_slots.specs.Rows.{IsFree}
 use Rattle.nomos_slots.specs.Shelving.{Shelving}
-use Rattle.nomos_slots.specs.declared.shelf.Row.{Row}
+use Rattle.nomos_slots.specs.declared.shelf.ShelfRow.{ShelfRow}
 use Rattle.nomos_slots.proofs.RowLemmas.{is_freed-read}
 use Rattle.nomos_slots.proofs.ShelfLemmas.{free-seen, free-from_seen}
 use Rattle.nomos_slots.proofs.shelf.Shelf.is_free.Goals as goal
@@ -24,7 +24,7 @@ returns-else-index g c =
       arith,
       v,
       c.requires,
-      length-map s.rows.items (λ (r : Row _). r.items.items),
+      length-map s.rows.items (λ (r : ShelfRow _). r.items.items),
     ) in
     let within = c.self.invariant.within in (
       λ yes.

@@ -5,7 +5,7 @@ use Rattle.std.proofs.lemmas.Option.{slice_get-get_or}
 use Rattle.std.proofs.Math.Seq.{map-set_same}
 use Rattle.nomos_slots.specs.Rows.{IsFree, rows_of}
 use Rattle.nomos_slots.specs.Shelving.{Shelving}
-use Rattle.nomos_slots.specs.declared.shelf.Row.{Row}
+use Rattle.nomos_slots.specs.declared.shelf.ShelfRow.{ShelfRow}
 use Rattle.nomos_slots.proofs.RowLemmas.{row-read, rows-set}
 use Rattle.nomos_slots.proofs.ShelfLemmas.{free-from_seen, shelf-same, marked-free, spares-more}
 use Rattle.nomos_slots.proofs.shelf.Shelf.remove.Goals as goal
@@ -19,7 +19,7 @@ invariant_of-self g c =
       arith,
       v,
       c.requires.within,
-      length-map s.rows.items (λ (r : Row _). r.items.items),
+      length-map s.rows.items (λ (r : ShelfRow _). r.items.items),
     ) in
     shelf-same s.rows.items s.log.items s.marked at c.index_mut.result.now _ c.self.invariant l
     c.index_mut.ensures.value refl
@@ -33,7 +33,7 @@ returns-clause-item g c =
       arith,
       v,
       c.requires.within,
-      length-map s.rows.items (λ (r : Row _). r.items.items),
+      length-map s.rows.items (λ (r : ShelfRow _). r.items.items),
     ) in
     let read = row-read s.rows.items at c.index_mut.result.now l c.index_mut.ensures.value in
     let same : get_or c.args.self.now.now at [] ≡ c.index_mut.result.now.items.items =
@@ -52,7 +52,7 @@ returns-clause-now g c =
       arith,
       v,
       c.requires.within,
-      length-map s.rows.items (λ (r : Row _). r.items.items),
+      length-map s.rows.items (λ (r : ShelfRow _). r.items.items),
     ) in
     let read = row-read s.rows.items at c.index_mut.result.now l c.index_mut.ensures.value in
     rows-set s.rows.items at _
@@ -68,7 +68,7 @@ returns-clause-marked g c =
       arith,
       v,
       c.requires.within,
-      length-map s.rows.items (λ (r : Row _). r.items.items),
+      length-map s.rows.items (λ (r : ShelfRow _). r.items.items),
     ) in
     let free = free-from_seen s.rows s.log s.marked at c.self.invariant.within
     (subst (λ (m : Shelving _). IsFree m at) (sym c.self.view_is) c.requires.free) in
@@ -77,8 +77,8 @@ returns-clause-marked g c =
 
 pub returns-clause-freed : goal.returns-clause-freed
 returns-clause-freed g c =
-    map-set_same (λ (r : Row _). r.freed) c.self.inside.rows.items c.args.place _ _
-    (ap (λ (r : Row _). r.freed) c.index_mut.ensures.value)
+    map-set_same (λ (r : ShelfRow _). r.freed) c.self.inside.rows.items c.args.place _ _
+    (ap (λ (r : ShelfRow _). r.freed) c.index_mut.ensures.value)
     ∙ ap (λ (m : Shelving _). m.freed) c.self.view_is
 
 pub returns-clause-spares : goal.returns-clause-spares
@@ -90,7 +90,7 @@ returns-clause-spares g c other =
       arith,
       v,
       c.requires.within,
-      length-map s.rows.items (λ (r : Row _). r.items.items),
+      length-map s.rows.items (λ (r : ShelfRow _). r.items.items),
     ) in
     let e = spares-more s.rows.items at 0 other c.index_mut.result.now
     (record { items = c.remove.new.self; freed = c.index_mut.result.now.freed })

@@ -5,8 +5,8 @@ use Rattle.std.specs.Global.{Vec}
 use Rattle.nomos_slots.specs.Log.{spare_of}
 use Rattle.nomos_slots.specs.Rows.{IsFree, rows_of, spares_of}
 use Rattle.nomos_slots.specs.Shelving.{Shelving}
-use Rattle.nomos_slots.specs.declared.shelf.Row.{Row}
-use Rattle.nomos_slots.specs.declared.shelf.Step.TheVariants as step
+use Rattle.nomos_slots.specs.declared.shelf.ShelfRow.{ShelfRow}
+use Rattle.nomos_slots.specs.declared.shelf.ShelfStep.TheVariants as step
 use Rattle.nomos_slots.proofs.RowLemmas.{is_freed-set_at, row-read, rows-set}
 use Rattle.nomos_slots.proofs.ShelfLemmas.{free-from_seen, shelf-same, marked-free, shelf-logged, marked-logged_any, back-replaced, free-kept, below-not_free, spares-set}
 use Rattle.nomos_slots.proofs.shelf.Shelf.replace.Goals as goal
@@ -20,7 +20,7 @@ invariant_of-self g c =
       arith,
       v,
       c.requires.within,
-      length-map s.rows.items (λ (r : Row _). r.items.items),
+      length-map s.rows.items (λ (r : ShelfRow _). r.items.items),
     ) in
     shelf-same s.rows.items s.log.items s.marked at c.index_mut.result.now _ c.self.invariant l
     c.index_mut.ensures.value refl
@@ -40,7 +40,7 @@ returns-then-is_free-clause-marked g c =
       arith,
       v,
       c.requires.within,
-      length-map s.rows.items (λ (r : Row _). r.items.items),
+      length-map s.rows.items (λ (r : ShelfRow _). r.items.items),
     ) in
     let free = free-from_seen s.rows s.log s.marked at c.self.invariant.within
     (subst (λ (m : Shelving _). IsFree m at) (sym c.self.view_is) (c.is_free.ensures.0 c.if-is_free.true)) in
@@ -56,9 +56,9 @@ returns-then-is_free-clause-free g c =
       arith,
       v,
       c.requires.within,
-      length-map s.rows.items (λ (r : Row _). r.items.items),
+      length-map s.rows.items (λ (r : ShelfRow _). r.items.items),
     ) in
-    let r : Row _ = record { items = c.replace.new.dest; freed = c.index_mut.result.now.freed } in
+    let r : ShelfRow _ = record { items = c.replace.new.dest; freed = c.index_mut.result.now.freed } in
     free-kept s.rows s.log s.log.items s.marked at at c.index_mut.result.now r c.self.invariant.within l
     c.index_mut.ensures.value (λ h. h)
     (subst (λ (m : Shelving _). IsFree m at) (sym c.self.view_is) (c.is_free.ensures.0 c.if-is_free.true))
@@ -72,9 +72,9 @@ returns-then-is_free-clause-others g c other was =
       arith,
       v,
       c.requires.within,
-      length-map s.rows.items (λ (r : Row _). r.items.items),
+      length-map s.rows.items (λ (r : ShelfRow _). r.items.items),
     ) in
-    let r : Row _ = record { items = c.replace.new.dest; freed = c.index_mut.result.now.freed } in
+    let r : ShelfRow _ = record { items = c.replace.new.dest; freed = c.index_mut.result.now.freed } in
     free-kept s.rows s.log s.log.items s.marked at other c.index_mut.result.now r c.self.invariant.within l
     c.index_mut.ensures.value (λ h. h)
     (subst (λ (m : Shelving _). IsFree m other) (sym c.self.view_is) was)
@@ -94,10 +94,10 @@ invariant_of-self-2 g c =
       arith,
       v,
       c.requires.within,
-      length-map s.rows.items (λ (r : Row _). r.items.items),
+      length-map s.rows.items (λ (r : ShelfRow _). r.items.items),
     ) in
     let r = c.replace-items.new.dest in
-    let flag : r.freed ≡ true = ap (λ (r : Row _). r.freed) c.replace-items.ensures.after in
+    let flag : r.freed ≡ true = ap (λ (r : ShelfRow _). r.freed) c.replace-items.ensures.after in
     let bound = below-not_free s.rows s.log s.marked at c.self.invariant.within
     (λ free. absurd (both_ways _ c.if-is_free.false
     (c.is_free.ensures.1 (subst (λ (m : Shelving _). IsFree m at) c.self.view_is free)))) in
@@ -108,7 +108,7 @@ invariant_of-self-2 g c =
 pub returns-clause-now : goal.returns-clause-now
 returns-clause-now g c =
     rows-set c.self.inside.rows.items c.args.place _
-    ∙ ap (λ (row : Row _). set (rows_of c.self.inside.rows.items) c.args.place row.items.items)
+    ∙ ap (λ (row : ShelfRow _). set (rows_of c.self.inside.rows.items) c.args.place row.items.items)
     c.replace-items.ensures.after
     ∙ ap (λ (m : Shelving _). set m.now c.args.place c.args.row.items) c.self.view_is
 
@@ -121,16 +121,16 @@ returns-clause-marked g c =
       arith,
       v,
       c.requires.within,
-      length-map s.rows.items (λ (r : Row _). r.items.items),
+      length-map s.rows.items (λ (r : ShelfRow _). r.items.items),
     ) in
     let r = c.replace-items.new.dest in
-    let flag : r.freed ≡ true = ap (λ (r : Row _). r.freed) c.replace-items.ensures.after in
+    let flag : r.freed ≡ true = ap (λ (r : ShelfRow _). r.freed) c.replace-items.ensures.after in
     let bound = below-not_free s.rows s.log s.marked at c.self.invariant.within
     (λ free. absurd (both_ways _ c.if-is_free.false
     (c.is_free.ensures.1 (subst (λ (m : Shelving _). IsFree m at) c.self.view_is free)))) in
     let old = c.replace-items.result.items in
     let read = row-read s.rows.items at c.index_mut-2.result.now l c.index_mut-2.ensures.value
-    ∙ ap (λ (r : Row _). r.items.items) (sym c.replace-items.ensures.value) in
+    ∙ ap (λ (r : ShelfRow _). r.items.items) (sym c.replace-items.ensures.value) in
     marked-logged_any s.rows.items s.log.items _ s.marked at (step.Replaced at old) r bound c.self.invariant.within
     c.push_reserved.ensures.items
     (λ rs within same. back-replaced rs at r.items.items old (same ∙ read))
@@ -145,10 +145,10 @@ returns-clause-free g c =
       arith,
       v,
       c.requires.within,
-      length-map s.rows.items (λ (r : Row _). r.items.items),
+      length-map s.rows.items (λ (r : ShelfRow _). r.items.items),
     ) in
     let r = c.replace-items.new.dest in
-    let flag : r.freed ≡ true = ap (λ (r : Row _). r.freed) c.replace-items.ensures.after in
+    let flag : r.freed ≡ true = ap (λ (r : ShelfRow _). r.freed) c.replace-items.ensures.after in
     let bound = below-not_free s.rows s.log s.marked at c.self.invariant.within
     (λ free. absurd (both_ways _ c.if-is_free.false
     (c.is_free.ensures.1 (subst (λ (m : Shelving _). IsFree m at) c.self.view_is free)))) in
@@ -163,10 +163,10 @@ returns-clause-others g c other was =
       arith,
       v,
       c.requires.within,
-      length-map s.rows.items (λ (r : Row _). r.items.items),
+      length-map s.rows.items (λ (r : ShelfRow _). r.items.items),
     ) in
     let r = c.replace-items.new.dest in
-    let flag : r.freed ≡ true = ap (λ (r : Row _). r.freed) c.replace-items.ensures.after in
+    let flag : r.freed ≡ true = ap (λ (r : ShelfRow _). r.freed) c.replace-items.ensures.after in
     let bound = below-not_free s.rows s.log s.marked at c.self.invariant.within
     (λ free. absurd (both_ways _ c.if-is_free.false
     (c.is_free.ensures.1 (subst (λ (m : Shelving _). IsFree m at) c.self.view_is free)))) in
@@ -178,6 +178,6 @@ returns-clause-others g c other was =
 pub returns-clause-spares : goal.returns-clause-spares
 returns-clause-spares g c =
     spares-set c.self.inside.rows.items c.args.place _
-    ∙ ap (λ (row : Row _). set (spares_of c.self.inside.rows.items) c.args.place (spare_of row.items))
+    ∙ ap (λ (row : ShelfRow _). set (spares_of c.self.inside.rows.items) c.args.place (spare_of row.items))
     c.replace-items.ensures.after
     ∙ ap (λ (m : Shelving _). set m.spares c.args.place (spare_of c.args.row)) c.self.view_is

@@ -2,7 +2,7 @@ use Rattle.std.proofs.Common.{◌<◌, length, slice_index, refl, ap, ◌∙◌,
 use Rattle.std.proofs.lemmas.List.{length-map}
 use Rattle.std.proofs.Math.Seq.{map-set_same}
 use Rattle.nomos_slots.specs.Shelving.{Shelving}
-use Rattle.nomos_slots.specs.declared.shelf.Row.{Row}
+use Rattle.nomos_slots.specs.declared.shelf.ShelfRow.{ShelfRow}
 use Rattle.nomos_slots.proofs.ShelfLemmas.{shelf-same, marked-same, spares-more, spares-at}
 use Rattle.nomos_slots.proofs.shelf.Shelf.reserve_in.Goals as goal
 
@@ -15,7 +15,7 @@ invariant_of-self g c =
       arith,
       v,
       c.requires,
-      length-map s.rows.items (λ (r : Row _). r.items.items),
+      length-map s.rows.items (λ (r : ShelfRow _). r.items.items),
     ) in
     shelf-same s.rows.items s.log.items s.marked at c.index_mut.result.now _ c.self.invariant l
     c.index_mut.ensures.value refl
@@ -23,8 +23,8 @@ invariant_of-self g c =
 pub returns-clause-now : goal.returns-clause-now
 returns-clause-now g c =
     let s = c.self.inside in
-    map-set_same (λ (r : Row _). r.items.items) s.rows.items c.args.place _ _
-    (c.reserve.ensures.items ∙ ap (λ (r : Row _). r.items.items) c.index_mut.ensures.value)
+    map-set_same (λ (r : ShelfRow _). r.items.items) s.rows.items c.args.place _ _
+    (c.reserve.ensures.items ∙ ap (λ (r : ShelfRow _). r.items.items) c.index_mut.ensures.value)
     ∙ ap (λ (m : Shelving _). m.now) c.self.view_is
 
 pub returns-clause-marked : goal.returns-clause-marked
@@ -37,8 +37,8 @@ returns-clause-marked g c =
 pub returns-clause-freed : goal.returns-clause-freed
 returns-clause-freed g c =
     let s = c.self.inside in
-    map-set_same (λ (r : Row _). r.freed) s.rows.items c.args.place _ _
-    (ap (λ (r : Row _). r.freed) c.index_mut.ensures.value)
+    map-set_same (λ (r : ShelfRow _). r.freed) s.rows.items c.args.place _ _
+    (ap (λ (r : ShelfRow _). r.freed) c.index_mut.ensures.value)
     ∙ ap (λ (m : Shelving _). m.freed) c.self.view_is
 
 pub returns-clause-ok : goal.returns-clause-ok
@@ -50,7 +50,7 @@ returns-clause-ok g c =
       arith,
       v,
       c.requires,
-      length-map s.rows.items (λ (r : Row _). r.items.items),
+      length-map s.rows.items (λ (r : ShelfRow _). r.items.items),
     ) in
     let e = spares-at s.rows.items at (record { items = c.reserve.new.self; freed = c.index_mut.result.now.freed }) l in
     search (rules, e)
@@ -64,7 +64,7 @@ returns-clause-spares g c other =
       arith,
       v,
       c.requires,
-      length-map s.rows.items (λ (r : Row _). r.items.items),
+      length-map s.rows.items (λ (r : ShelfRow _). r.items.items),
     ) in
     let e = spares-more s.rows.items at 0 other c.index_mut.result.now
     (record { items = c.reserve.new.self; freed = c.index_mut.result.now.freed })

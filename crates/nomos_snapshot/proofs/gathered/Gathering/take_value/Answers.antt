@@ -1,6 +1,6 @@
 -- A variable is put behind those of the process.
 use Rattle.std.proofs.Common.{refl, rules, sym}
-use Rattle.nomos_snapshot.specs.Gathering.{with_value}
+use Rattle.nomos_snapshot.specs.GatheredLines.{with_value}
 use Rattle.nomos_snapshot.proofs.GatheringLemmas.{value-row, variable-taken}
 use Rattle.nomos_snapshot.proofs.gathered.Gathering.take_value.Goals as goal
 

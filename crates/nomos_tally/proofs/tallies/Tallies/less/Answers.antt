@@ -5,7 +5,7 @@ use Rattle.nomos_slots.specs.declared.numbered.Slot.{Slot}
 use Rattle.nomos_slots.proofs.NumberLaws.{numbers-put_at}
 use Rattle.nomos_tally.specs.Suspecting.{KeepsSuspects}
 use Rattle.nomos_tally.specs.Tallying.{only, tallied}
-use Rattle.nomos_tally.specs.declared.tally.Doing.{Doing}
+use Rattle.nomos_tally.specs.declared.tally.NameUse.{NameUse}
 use Rattle.nomos_tally.specs.declared.tally.Tally.{Tally}
 use Rattle.nomos_tally.proofs.TallyLemmas.{less-counted, less-suspects}
 use Rattle.nomos_tally.proofs.tallies.Tallies.less.Goals as goal
@@ -15,7 +15,7 @@ returns c =
     let t = c.args.self.now in
     let before = t.names.now in
     let next = c.in-Some-less.next in
-    let counts : (d : Doing) (n : ℕ)
+    let counts : (d : NameUse) (n : ℕ)
     → tallied c.put.new.self.now d n + count_of n (only c.args.doing (c.args.name ∷ []) d) ≡ tallied before d n =
     λ d n.
     ap (λ (ts : List (Slot Tally)). tallied ts d n + count_of n (only c.args.doing (c.args.name ∷ []) d))

@@ -4,7 +4,7 @@ use Rattle.nomos_slots.specs.Numbers.{numbers}
 use Rattle.nomos_slots.specs.declared.numbered.Slot.{Slot}
 use Rattle.nomos_slots.proofs.NumberLaws.{numbers-put_at}
 use Rattle.nomos_tally.specs.Tallying.{only, tallied}
-use Rattle.nomos_tally.specs.declared.tally.Doing.{Doing}
+use Rattle.nomos_tally.specs.declared.tally.NameUse.{NameUse}
 use Rattle.nomos_tally.specs.declared.tally.Tally.{Tally}
 use Rattle.nomos_tally.proofs.TallyLemmas.{more-counted, more-suspects}
 use Rattle.nomos_tally.proofs.tallies.Tallies.more.Goals as goal
@@ -13,7 +13,7 @@ pub returns : goal.returns
 returns c =
     let t = c.args.self.now in
     let before = t.names.now in
-    let counts : (d : Doing) (n : ℕ)
+    let counts : (d : NameUse) (n : ℕ)
     → tallied c.put.new.self.now d n ≡ tallied before d n + count_of n (only c.args.doing (c.args.name ∷ []) d) =
     λ d n. ap (λ (ts : List (Slot Tally)). tallied ts d n) c.put.ensures.now
     ∙ more-counted before c.requires c.in-Some.place c.args.name c.in-Some.tally c.in-Some-more.next c.in-Some.ensures

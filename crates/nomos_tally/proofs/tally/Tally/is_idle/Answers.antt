@@ -1,12 +1,12 @@
 use Rattle.std.proofs.Common.{◌≡◌, ◌∙◌, sym, arith, nat_eq, true, eqb-true, eq-eqb}
 use Rattle.nomos_tally.specs.Tallying.{counted}
-use Rattle.nomos_tally.specs.declared.tally.Doing.{Doing}
-use Rattle.nomos_tally.specs.declared.tally.Doing.TheVariants as doing
+use Rattle.nomos_tally.specs.declared.tally.NameUse.{NameUse}
+use Rattle.nomos_tally.specs.declared.tally.NameUse.TheVariants as doing
 use Rattle.nomos_tally.specs.declared.tally.Tally.{Tally}
 use Rattle.nomos_tally.proofs.tally.Tally.is_idle.Goals as goal
 use Rattle.nomos_tally.proofs.tally.Tally.is_idle.Goals.{then-self-eq0, else-self-eq0}
 
-idle-from : (t : Tally) → t.provided ≡ 0 → t.used ≡ 0 → t.based ≡ 0 → (d : Doing) → counted d t ≡ 0
+idle-from : (t : Tally) → t.provided ≡ 0 → t.used ≡ 0 → t.based ≡ 0 → (d : NameUse) → counted d t ≡ 0
 idle-from t provided used based doing.Provides = provided
 idle-from t provided used based doing.Uses = used
 idle-from t provided used based doing.Bases = based

@@ -3,7 +3,7 @@ use Rattle.std.proofs.lemmas.Option.{get_or_from_slice_get}
 use Rattle.nomos_ir.specs.declared.mode.Mode.{Mode}
 use Rattle.nomos_types.specs.Modes.{HasMode}
 use Rattle.nomos_types.proofs.ModeLaws.{mode-exists}
-use Rattle.nomos_typed.specs.mirror.Told.{program_of}
+use Rattle.nomos_typed.specs.mirror.ComparedWith.{program_of}
 use Rattle.nomos_typed.proofs.told.Told.mode_of.Goals as goal
 
 pub returns : goal.returns

@@ -1,0 +1,2 @@
+pub mod TermTable
+pub mod Fitting

@@ -1,5 +1,0 @@
-use Rattle.nomos_equality.specs.mirror.Linking.{same}
-use Rattle.nomos_equality.proofs.classes.Classes.over.Goals as goal
-
-pub returns-in-None-clause-linked : goal.returns-in-None-clause-linked
-returns-in-None-clause-linked c = same c.args.t

@@ -1,0 +1,46 @@
+use Rattle.std.proofs.Common.{◌≡◌, ◌<◌, ℕ, List, get_or, length, subst, arith, inl, inr}
+use Rattle.std.proofs.lemmas.Bool.{cases_lt}
+use Rattle.std.proofs.lemmas.List.{get_or_default}
+use Rattle.nomos_ir.specs.declared.type_node.Branch.{Branch}
+use Rattle.nomos_equality.specs.declared.hop.Hop.TheVariants as hop
+use Rattle.nomos_equality.specs.mirror.Reach.{MeetsPart}
+use Rattle.nomos_equality.proofs.ReachLemmas.{walks-nowhere, walks-through, part-walks, labels-met}
+use Rattle.nomos_equality.proofs.reach.TypeWalk.follow_labels.Goals as goal
+
+pub loop-branch-init : goal.loop-branch-init
+loop-branch-init c =
+    record {
+      walks = walks-nowhere c.args.program.now c.args.self.now.visits.keys;
+      followed = λ k d inside. absurd (omega arith);
+    }
+
+pub loop-branch-preserved : goal.loop-branch-preserved
+loop-branch-preserved c =
+    record {
+      walks = walks-through c.args.program.now c.args.self.now.visits.keys c.loop-branch.self.visits.keys
+          c.follow.new.self.visits.keys c.loop-branch.invariant.walks c.in_ok-follow.ensures.walks;
+      followed = λ k d inside.
+          elim (cases_lt k c.loop-branch.branch-index) [
+            | inl less ↦
+                part-walks c.args.program.now c.args.at.0
+                (hop.Label (get_or c.choices_of-branches.result.now k d).label) c.loop-branch.self.visits.keys
+                c.follow.new.self.visits.keys c.in_ok-follow.ensures.walks
+                (c.loop-branch.invariant.followed k d less)
+            | inr more ↦
+                let at : c.loop-branch.branch-index ≡ k = omega arith in
+                let one = get_or_default c.choices_of-branches.result.now c.loop-branch.branch-index
+                (record { label = record { 0 = 0 }; goes = record { 0 = 0 } }) d c.loop-branch-test.true in
+                subst (λ (n : ℕ). MeetsPart c.args.program.now c.args.at.0
+                (hop.Label (get_or c.choices_of-branches.result.now n d).label) c.follow.new.self.visits.keys) at
+                (subst (λ (e : Branch). MeetsPart c.args.program.now c.args.at.0 (hop.Label e.label)
+                c.follow.new.self.visits.keys) one c.in_ok-follow.ensures.meets)
+          ];
+    }
+
+pub returns-clause-meets : goal.returns-clause-meets
+returns-clause-meets c =
+    labels-met c.args.program.now c.args.at.0 c.node.result.now c.loop-branch.self.visits.keys c.node.ensures
+    (subst (λ (bs : List Branch). (k : ℕ) (d : Branch) → k < length bs
+    → MeetsPart c.args.program.now c.args.at.0 (hop.Label (get_or bs k d).label) c.loop-branch.self.visits.keys)
+    c.choices_of-branches.ensures (λ k d inside.
+    c.loop-branch.invariant.followed k d (omega (arith, inside, c.loop-branch-test.false))))

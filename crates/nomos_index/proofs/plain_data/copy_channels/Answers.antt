@@ -1,0 +1,30 @@
+use Rattle.std.proofs.Common.{◌+◌, ◌∙◌, [], Option, sym, subst, arith}
+use Rattle.nomos_index.specs.Copying.{AreChannelsBelow}
+use Rattle.nomos_index.specs.Spanning.{HasVariable}
+use Rattle.nomos_index.specs.declared.span.Span.{Span}
+use Rattle.nomos_index.proofs.CopyLemmas.{channels-all, channels-none}
+use Rattle.nomos_index.proofs.plain_data.copy_channels.Goals as goal
+
+pub returns-in_default : goal.returns-in_default
+returns-in_default c =
+    let cells = c.args.contents.now.channels.now in
+    c.new-made.ensures.items
+    ∙ channels-all cells c.args.pid 0 [] (channels-none cells c.args.pid 0 (λ v some. omega arith))
+    (λ v some. absurd (subst (λ (s : Option Span). HasVariable s v) c.in_default.is (c.requires v some)))
+
+pub loop-variable-init : goal.loop-variable-init
+loop-variable-init c =
+    let cells = c.args.contents.now.channels.now in
+    let low = c.in-Some.field-0.low in
+    subst (AreChannelsBelow cells c.args.pid low) (sym c.new-made.ensures.items)
+    (channels-none cells c.args.pid low
+    (λ v some. (subst (λ (s : Option Span). HasVariable s v) c.in-Some.is (c.requires v some)).0))
+
+pub returns : goal.returns
+returns c =
+    let cells = c.args.contents.now.channels.now in
+    channels-all cells c.args.pid (c.loop-variable.variable + 1) c.push_channel-2.new.made.items
+    c.in_ok-push_channel-2.ensures
+    (λ v some.
+    let within = subst (λ (s : Option Span). HasVariable s v) c.in-Some.is (c.requires v some) in
+    omega (arith, within.1, c.loop-variable-test.false))

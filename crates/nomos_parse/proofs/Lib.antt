@@ -1,2 +1,0 @@
-pub mod ParsingLaws
-pub mod LimitLaws

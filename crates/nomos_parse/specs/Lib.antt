@@ -1,2 +1,0 @@
-pub mod mirror
-pub mod Parsing

@@ -1,2 +1,0 @@
--- Mirrors of the code, on which no promise stands.
-pub mod Errors

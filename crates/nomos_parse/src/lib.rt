@@ -1,4 +1,0 @@
-//! From the bytes of a contract text to its tree.
-#![tactic(auto)]
-
-pub mod parse;

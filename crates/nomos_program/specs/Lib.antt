@@ -1,2 +1,0 @@
-pub mod Elaborated
-pub mod WrittenWork

@@ -1,4 +1,0 @@
-pub mod Continuing
-pub mod SyncAnswer
-pub mod Carrying
-pub mod mirror

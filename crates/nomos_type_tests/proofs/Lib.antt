@@ -1,2 +1,0 @@
-pub mod ShortNameLemmas
-pub mod TypeProgramLemmas

@@ -1,6 +1,0 @@
-use Rattle.nomos_type_tests.specs.Fitting.{StandOnce}
-use Rattle.nomos_type_tests.proofs.fitting.stand_once.Given as goal
-
--- the numbers so far occur once
-abbrev pub invariant-loop-t : goal.invariant-loop-t
-invariant-loop-t l = StandOnce l.places l.t

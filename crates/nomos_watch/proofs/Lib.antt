@@ -1,2 +1,0 @@
-pub mod ReadyLaws
-pub mod StartLaws

@@ -1,5 +1,0 @@
-use Rattle.std.proofs.Common.{length}
-use Rattle.nomos_watch.proofs.watched.Watched.end_where.Goals as goal
-
-pub returns-in-None : goal.returns-in-None
-returns-in-None g c = c.end_at_rest.ensures (length c.args.self.now.world.firings) c.args.limit
