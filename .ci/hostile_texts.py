@@ -1,8 +1,8 @@
 """Small texts that keep a program busy, each with the first words of its answer."""
 from collections import namedtuple
 
-# What is asked of the program: the words behind FILE, or behind FILE SCRIPT where there is a script; and with which status
-# and which words at the head of its last line it answers.
+# What is asked of the program: the words behind FILE, or behind FILE SCRIPT where there is a script; and with which
+# status and which words at the head of its last line it answers.
 Row = namedtuple("Row", "name contract script words status answer")
 
 HOPS = 60
@@ -74,7 +74,8 @@ def choices(name, nodes):
     """A cycle of choices with one branch each."""
     parts = (nodes + HOPS - 1) // HOPS
     sizes = [min(HOPS, nodes - HOPS * i) for i in range(parts)]
-    return joined(lambda i: f"type R {name}{i} = {'&{a : ' * sizes[i]}{name}{(i + 1) % parts}{'}' * sizes[i]};\n", parts)
+    return joined(
+        lambda i: f"type R {name}{i} = {'&{a : ' * sizes[i]}{name}{(i + 1) % parts}{'}' * sizes[i]};\n", parts)
 
 
 def each_as_each(lengths):
@@ -97,7 +98,8 @@ def of_types():
     yield refused(
         "cycles of 500 and 501 nodes, each with an amount of its own", cycles(500, 501, own(1), own(507)), 1, "gives")
     yield refused(
-        "cycles of 2,000 and 2,001 nodes, each with an amount of its own", cycles(2000, 2001, own(1), own(2007)), 1, "gives")
+        "cycles of 2,000 and 2,001 nodes, each with an amount of its own",
+        cycles(2000, 2001, own(1), own(2007)), 1, "gives")
     yield refused(
         "cycles of 500 and 501 nodes with such amounts, beside 64 open ones",
         cycles(500, 501, own(1), own(507)) + stars(64), 1, "gives")
@@ -176,7 +178,8 @@ def lists_of_lists(depth):
     """A list in a list, so many deep, over the list of numbers, handed on."""
     kind = "list " * (depth + 1) + "int"
     nested = joined(lambda i: f"let m{i + 1} = {'l10' if i == 0 else f'm{i}'} :: nil {'list ' * (i + 1)}int; ", depth)
-    return (CONCATENATED + f"proc T loop(n: int, xs: {kind};) = if n < 1 {{ close }} else {{ call loop(n - 1, xs;) }};\n"
+    return (CONCATENATED +
+            f"proc T loop(n: int, xs: {kind};) = if n < 1 {{ close }} else {{ call loop(n - 1, xs;) }};\n"
             "proc T t(n: int;) = " + long_list() + nested + f"call loop(n, m{depth};);\n")
 
 
@@ -238,7 +241,8 @@ def around(count):
     empty = ", ".join(["nil int"] * count)
     return (f"fn f(n: int, {pars}) : int = n;\n"
             f"proc T t(n: int;) = call u(n, {empty};);\n"
-            f"proc T u(n: int, {pars};) = if n < 1 {{ close }} else {{ let x = f(n, {args}); call u(x - 1, {args};) }};\n")
+            f"proc T u(n: int, {pars};) = if n < 1 {{ close }} else "
+            f"{{ let x = f(n, {args}); call u(x - 1, {args};) }};\n")
 
 
 def of_values():
@@ -296,7 +300,8 @@ def of_ledgers():
     yield fired(
         "200,000 processes that have left, and 1,000 times `show`", left_behind(),
         "deposit u 0\nlet p = new u c(200000;)\nexec u f(; p)\n" + "show\n" * 1000, 0, "deposits 0")
-    yield fired("20,000 batches that block beside 20,000 contracts", blocking(), makes + "exec u z(; c5)\n" * 20000, 3, "")
+    yield fired(
+        "20,000 batches that block beside 20,000 contracts", blocking(), makes + "exec u z(; c5)\n" * 20000, 3, "")
 
 
 # ---- what is printed, of which there is no bound
@@ -307,7 +312,8 @@ def of_printing():
     for times in (100, 1000):
         yield fired(f"{times} results of 188 KB", emits, f"deposit u 0\nexec u go({times}, [{numbers}];)\n", 0, "")
     yield fired(
-        "4,000 accounts, and 100 times `show`", "", joined(lambda i: f"deposit a{i} 1\n", 4000) + "show\n" * 100, 0, "deposits 4000")
+        "4,000 accounts, and 100 times `show`", "",
+        joined(lambda i: f"deposit a{i} 1\n", 4000) + "show\n" * 100, 0, "deposits 4000")
 
 
 def rows():

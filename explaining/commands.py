@@ -120,8 +120,9 @@ class Call:
         if row.word == "begin":
             end = self.script.row(last)
             behind = (end.at, min(end.end + 1, self.script.size), "")
-            tries.append((f"take this `begin` out, and its `end` in line {last}, so that each line is submitted by itself",
-                          (out, behind)))
+            tries.append(
+                (f"take this `begin` out, and its `end` in line {last}, so that each line is submitted by itself",
+                 (out, behind)))
             whole = self.script.text[row.at : end.end]
             moved = (row.at, min(end.end + 1, self.script.size), "")
             tries.append((f"write lines {begin} to {last} before line {first.number}",

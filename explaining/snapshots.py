@@ -37,8 +37,9 @@ class Snapshot:
         if text and not text.endswith("\n"):
             yield "write a line feed behind the last line", [(len(text), len(text), "\n")]
         line = text[start:end]
-        if line != " ".join(line.split()) and line.strip():
-            yield "write one blank between two words, and none before or behind them", [(start, end, " ".join(line.split()))]
+        apart = " ".join(line.split())
+        if line != apart and line.strip():
+            yield "write one blank between two words, and none before or behind them", [(start, end, apart)]
         if not line.strip() or line.lstrip().startswith(("//", "#")):
             yield "take this line out", [(start, min(end + 1, len(text)), "")]
 

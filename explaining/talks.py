@@ -54,8 +54,8 @@ class Talk:
         self.name, self.process = words[3:5]
 
     def asked(self, *edits, script=None, name=None, process=None):
-        """Gives the lines of the answer with edits of the talk, or with another script, account or process; nothing where
-        that takes too long."""
+        """Gives the lines of the answer with edits of the talk, or with another script, account or process; nothing
+        where that takes too long."""
         kept = self.program.kept
         files = kept("contract.nomos", self.text.data), kept("lines.script", script or self.script.data)
         data = self.talk.edited(*edits) if edits else self.talk.data

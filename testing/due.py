@@ -105,7 +105,8 @@ class Due:
         """Has a part of one of these kinds be wrong behind one of another, since no command has both."""
         for it in self.of(*kinds)[1:]:
             if it.kind != self.of(*kinds)[0].kind:
-                self.say(it.line, it.column - 1, f"no command takes this beside `{self.of(*kinds)[0].words.split()[0]}`")
+                first = self.of(*kinds)[0].words.split()[0]
+                self.say(it.line, it.column - 1, f"no command takes this beside `{first}`")
 
     def of(self, *kinds):
         return [it for it in self.parts if it.kind in kinds]

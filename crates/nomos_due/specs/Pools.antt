@@ -18,8 +18,8 @@ use Rattle.nomos_due.specs.RunsDue.{HasRun, usual_orders}
 abbrev pub pool_refusal : ℕ → List ℕ
 pool_refusal k = script_refusal (codes "Pool " ++ decimal k)
 
--- What is due where so many threads submit the single lines of a script: a status, what is to be written to the output,
--- the journal, and the items that were taken, which stand in place of those that were read.
+-- What is due where so many threads submit the single lines of a script. It is a status, what is to be written to the
+-- output, the journal, and the items that were taken, which stand in place of those that were read.
 pub data IsPoolDue (a : Acceptance) (threads : ℕ) (script : Input)
     : ℕ → List ℕ → Journal → Option (List ScriptItem) → Type 0 where
   no_script : (status : ℕ) (out : List ℕ) → IsNoScript script status out

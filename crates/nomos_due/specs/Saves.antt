@@ -17,9 +17,9 @@ use Rattle.nomos_due.specs.Outside.{Input}
 use Rattle.nomos_due.specs.RunsDue.{HasRun, usual_orders}
 use Rattle.nomos_due.specs.SnapshotLines.{unsaved_line}
 
--- What is due where a script is run and the ledger to which it leads is saved: a status, what is to be written to the
--- output, the snapshot if there is one, and the journal. What is saved is loaded as that ledger. Where the ledger is
--- not saved nothing else is printed, and the journal has no entry.
+-- What is due where a script is run and the ledger to which it leads is saved. It is a status, what is to be written to
+-- the output, the snapshot if there is one, and the journal. What is saved is loaded as that ledger. Where the ledger
+-- is not saved nothing else is printed, and the journal has no entry.
 pub data IsSaveDue (a : Acceptance) (script : Input) : ℕ → List ℕ → Option (List ℕ) → Journal → Type 0 where
   no_script : (status : ℕ) (out : List ℕ) → IsNoScript script status out
       → IsSaveDue a script status out None (no_entries usual_limit)

@@ -32,8 +32,8 @@ abbrev pub talk_status : Bool → List Entry → ℕ
 talk_status fine entries = if fine then run_status entries else 3
 
 -- What is due where a party talks behind a script, with as many firings in all as a batch has where nothing else is
--- said: a status, what is to be written to the output, and the journal. The text of the talk is read behind the script,
--- and before anything is run.
+-- said. It is a status, what is to be written to the output, and the journal. The text of the talk is read behind the
+-- script, and before anything is run.
 pub data IsTalkDue (a : Acceptance) (name proc : List ℕ) (script text : Input) : ℕ → List ℕ → Journal → Type 0 where
   no_script : (status : ℕ) (out : List ℕ) → IsNoScript script status out
       → IsTalkDue a name proc script text status out (no_entries usual_limit)

@@ -10,7 +10,7 @@ with_text before (Some text) = with_end before text
 
 -- The status that stands once these bytes were to be written to the output, and this text of a journal, or this
 -- snapshot, if there is one, to its sink. All is written; or the output failed, has a front of its bytes, and the
--- journal's sink has nothing; or the output has all, and the journal's sink failed and has a front of the text.
+-- journal's sink has nothing. Or the output has all, and the journal's sink failed and has a front of the text.
 pub data HasWrittenOut (status : ℕ) (bytes : List ℕ) (kept : Option (List ℕ)) (out journal_out : SinkState) : ℕ
     → Type 0 where
   whole : out.after ≡ with_end out.before bytes → journal_out.after ≡ with_text journal_out.before kept

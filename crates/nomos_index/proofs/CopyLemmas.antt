@@ -61,6 +61,13 @@ module _ {X : Type 0} where
       let here : e.0.0 < n + 1 = omega arith in
       All-cons (λ e. e.0.0 < n + 1) e b here (below-more n b (All-tail (λ e. e.0.0 < n) e b below))
 
+  below-over : (n m : ℕ) → n ≤ m → (b : List (VarId × X)) → AreBelow n b → AreBelow m b
+  below-over n m over [] below = All-nil (λ e. e.0.0 < m)
+  below-over n m over (e ∷ b) below =
+      let lower : e.0.0 < n = All-head (λ e. e.0.0 < n) e b below in
+      let here : e.0.0 < m = omega arith in
+      All-cons (λ e. e.0.0 < m) e b here (below-over n m over b (All-tail (λ e. e.0.0 < n) e b below))
+
 -- ---- channels
 
 module _ (cells : List Cell) (process : ℕ) where
@@ -115,6 +122,19 @@ module _ (cells : List Cell) (process : ℕ) where
             | inl same ↦
                 below-unbound v u made is.below (omega arith) ∙ sym none ∙ ap (name_in cells process) (sym same)
             | inr other ↦ is.bound u (omega arith)
+          ];
+    }
+
+    -- none of those that are gone over has one
+    pub channels-skip : (next : ℕ) → v ≤ next → ((u : ℕ) → v ≤ u → u < next → name_in cells process u ≡ None)
+        → AreChannelsBelow cells process next made
+    channels-skip next over none = record {
+      ascending = is.ascending;
+      below = below-over v next over made is.below;
+      bound = λ u below.
+          elim (cases_lt u v) [
+            | inl before ↦ is.bound u before
+            | inr from ↦ below-unbound v u made is.below from ∙ sym (none u from below)
           ];
     }
 

@@ -29,3 +29,6 @@ pub mod RedirectLemmas
 pub mod SpanLemmas
 pub mod StartLemmas
 pub mod TellLemmas
+pub mod TallyLemmas
+pub mod MoveLaws
+pub mod CountLaws

@@ -16,3 +16,6 @@ pub mod Tidying
 pub mod NameUses
 pub mod Mentions
 pub mod Copying
+pub mod Tallying
+pub mod Suspecting
+pub mod Moving

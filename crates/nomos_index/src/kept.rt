@@ -12,15 +12,15 @@ use nomos_ir::mode::Mode;
 #[derive(Clone, Copy, Debug)]
 pub(crate) struct KeptProcess {
     pub(crate) mode: Mode,
+    /// Whether it is known that its values stand in ascending order.
+    pub(crate) ascends: bool,
     pub(crate) code: CodeId,
     pub(crate) offers: u32,
     pub(crate) base: Option<u32>,
-    pub(crate) purse: u128,
     pub(crate) payer: u32,
-    /// From which variable to which its channels may stand.
+    /// Among which variables its channels may stand.
     pub(crate) span: Option<Span>,
-    /// Whether it is known that its values stand in ascending order.
-    pub(crate) ascends: bool,
+    pub(crate) purse: u128,
 }
 
 impl KeptProcess {
@@ -31,13 +31,13 @@ impl KeptProcess {
     {
         KeptProcess {
             mode: fields.mode,
+            ascends,
             code: fields.code,
             offers: fields.offers,
             base: fields.base,
-            purse: fields.purse,
             payer: fields.payer,
             span,
-            ascends,
+            purse: fields.purse,
         }
     }
 }
@@ -60,7 +60,7 @@ pub(crate) enum Kept {
 }
 
 impl Kept {
-    /// From which variable to which its channels may stand.
+    /// Among which variables its channels may stand.
     pub(crate) fn span(&self) -> Option<Span>
         ensures { (v : ℕ) → Spans (Some self.now) v → HasVariable result v }
     {

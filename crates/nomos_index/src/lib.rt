@@ -1,4 +1,5 @@
-//! The indexed form of a state: objects under numbers and channels in one table, which can be marked and put back.
+//! The indexed form of a state: objects under numbers and channels in one table, which can be marked and put back; and
+//! tallies, which say how often objects provide, use and have a name as base.
 #![tactic(auto)]
 
 mod accounts;
@@ -26,6 +27,9 @@ mod readings;
 mod redirecting;
 mod sought;
 pub mod span;
+pub mod suspects;
+pub mod tallies;
+pub mod tally;
 mod value_rows;
 mod walking;
 mod weights;

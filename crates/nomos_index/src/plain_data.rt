@@ -12,7 +12,7 @@ use crate::copying::{copy_lists, copy_values};
 use crate::inside::{Columns, Inside};
 use crate::kept::{Kept, KeptMessage, KeptProcess};
 use crate::looking::kept_at;
-use crate::span::Span;
+use crate::span::{Span, next_in};
 use crate::walking::typed_at;
 use nomos_deeds::sight::SeenPayload;
 use nomos_ir::ids::{TypeId, VarId};
@@ -47,13 +47,13 @@ fn copy_channels(
     ensures { IfOk result (λ made. made.items ≡ channels_of contents.now.channels.now pid) }
 {
     let mut made = Vec::new(alloc);
-    let Some(Span { low, high }) = span else {
+    let Some(within) = span else {
         return Ok(made);
     };
-    let mut variable = low;
-    while variable < high {
+    let mut variable = within.low;
+    while variable < within.high {
         push_channel(&mut made, contents, pid, variable)?;
-        variable += 1;
+        variable = next_in(within, &contents.channels, pid, variable + 1);
     }
     push_channel(&mut made, contents, pid, variable)?;
     Ok(made)

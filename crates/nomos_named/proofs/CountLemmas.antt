@@ -1,16 +1,21 @@
 -- The channels of a process are counted, variable by variable.
-use Rattle.std.proofs.Common.{◌≡◌, ◌<◌, ◌≤◌, ℕ, ◌+◌, ◌-◌, List, [], IsSome, Option, refl, ap, arith}
+use Rattle.std.proofs.Common.{◌≡◌, ◌<◌, ◌≤◌, ℕ, ◌+◌, ◌-◌, List, [], IsSome, Option, Some, None, refl, ap, arith}
 use Rattle.std.specs.Option.{option_to_list}
 use Rattle.nomos_ir.specs.Bindings.{IsAscending, bound_to}
 use Rattle.nomos_ir.specs.Order.{count_of}
 use Rattle.nomos_machine.specs.declared.object.Process.{Process}
-use Rattle.nomos_tally.specs.Moving.{Moves}
-use Rattle.nomos_tally.specs.Tallying.{channels_used, nothing, only}
-use Rattle.nomos_tally.specs.declared.tallies.Tallies.{Tallies}
-use Rattle.nomos_tally.specs.declared.tally.NameUse.{NameUse}
-use Rattle.nomos_tally.specs.declared.tally.NameUse.TheVariants as doing
-use Rattle.nomos_tally.proofs.MoveLaws.{moves-both, moves-still}
-use Rattle.nomos_named.proofs.SpanLemmas.{names-all, names-step, names_from}
+use Rattle.nomos_index.specs.Moving.{Moves}
+use Rattle.nomos_index.specs.Tallying.{channels_used, nothing, only}
+use Rattle.nomos_index.specs.declared.tallies.Tallies.{Tallies}
+use Rattle.nomos_index.specs.declared.tally.NameUse.{NameUse}
+use Rattle.nomos_index.specs.declared.tally.NameUse.TheVariants as doing
+use Rattle.nomos_index.proofs.MoveLaws.{moves-both, moves-still}
+use Rattle.nomos_named.proofs.SpanLemmas.{names-all, names-skip, names-step, names_from}
+
+-- there is nothing, where what there is would be nothing
+pub none-by : (o : Option ℕ) → (IsSome o → o ≡ None) → o ≡ None
+none-by None none = refl
+none-by (Some name) none = none refl
 
 -- what is done by so many variables from the lowest on
 abbrev pub so_far : ℕ → ℕ → Process → NameUse → List ℕ
@@ -69,6 +74,26 @@ module _ (low : ℕ) (p : Process) where
         none doing.Provides n = refl
         none doing.Uses n = refl
         none doing.Bases n = refl
+
+  -- variables without a channel are gone over
+  module _ (v next : ℕ) (above : low ≤ v) (over : v ≤ next)
+      (none : (w : ℕ) → v ≤ w → w < next → bound_to w p.channels ≡ None) where
+    so_far-skip : (d : NameUse) (n : ℕ) → count_of n (so_far low (next - low) p d) ≡ count_of n
+        (so_far low (v - low) p d)
+    so_far-skip doing.Provides n = refl
+    so_far-skip doing.Uses n = names-skip low v next n p.channels above over none
+    so_far-skip doing.Bases n = refl
+
+    module _ (a b : Tallies) where
+      pub count-skip : Moves a b nothing (so_far low (v - low) p) → Moves a b nothing (so_far low (next - low) p)
+      count-skip moves =
+          moves-both a b b nothing (so_far low (v - low) p) nothing nothing nothing (so_far low (next - low) p) moves
+          (moves-still b nothing nothing (λ d n. refl)) (λ d n. omega (arith, so_far-skip d n))
+
+      pub uncount-skip : Moves a b (so_far low (v - low) p) nothing → Moves a b (so_far low (next - low) p) nothing
+      uncount-skip moves =
+          moves-both a b b (so_far low (v - low) p) nothing nothing nothing (so_far low (next - low) p) nothing moves
+          (moves-still b nothing nothing (λ d n. refl)) (λ d n. omega (arith, so_far-skip d n))
 
   module _ (a b : Tallies) (k : ℕ) (ascending : 0 < k → IsAscending p.channels)
       (within : (v : ℕ) → IsSome (bound_to v p.channels) → (low ≤ v) × (v < low + k)) where

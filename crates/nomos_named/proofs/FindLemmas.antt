@@ -19,9 +19,9 @@ use Rattle.nomos_machine.specs.declared.object.Process.{Process}
 use Rattle.nomos_machine.proofs.NameLaws.{names-told}
 use Rattle.nomos_machine.proofs.PutLaws.{object_at-found}
 use Rattle.nomos_index.specs.NameUses.{DoesAt}
-use Rattle.nomos_tally.specs.Tallying.{names_of}
-use Rattle.nomos_tally.specs.declared.tally.NameUse.TheVariants as doing
-use Rattle.nomos_tally.proofs.CountLaws.{find-none, find-one}
+use Rattle.nomos_index.specs.Tallying.{names_of}
+use Rattle.nomos_index.specs.declared.tally.NameUse.TheVariants as doing
+use Rattle.nomos_index.proofs.CountLaws.{find-none, find-one}
 use Rattle.nomos_named.specs.NameFinding.{doing_of}
 
 -- ---- who passes a test does it

@@ -24,15 +24,15 @@ use Rattle.nomos_deeds.specs.declared.sight.SeenProcess.{SeenProcess}
 use Rattle.nomos_ir.specs.declared.ids.TypeId.{TypeId}
 use Rattle.nomos_ir.specs.declared.ids.VarId.{VarId}
 use Rattle.nomos_index.specs.Mentions.{channel_in, names_in}
-use Rattle.nomos_tally.specs.Moving.{Moves}
-use Rattle.nomos_tally.specs.Suspecting.{IsSuspectIfIdle, KeepsSuspects}
-use Rattle.nomos_tally.specs.Tallying.{AreRight, Shifts, channels_used, names_of, nothing, only, tallied}
-use Rattle.nomos_tally.specs.declared.tallies.Tallies.{Tallies}
-use Rattle.nomos_tally.specs.declared.tally.NameUse.TheVariants as doing
-use Rattle.nomos_tally.specs.declared.tally.NameUse.{NameUse}
-use Rattle.nomos_tally.specs.declared.tally.Tally.{Tally}
-use Rattle.nomos_tally.proofs.CountLaws.{Exchanges, channels-exchanges, fields_of, leaving-exchanges, right-come, right-put}
-use Rattle.nomos_tally.proofs.MoveLaws.{moves-both, moves-still}
+use Rattle.nomos_index.specs.Moving.{Moves}
+use Rattle.nomos_index.specs.Suspecting.{IsSuspectIfIdle, KeepsSuspects}
+use Rattle.nomos_index.specs.Tallying.{AreRight, Shifts, channels_used, names_of, nothing, only, tallied}
+use Rattle.nomos_index.specs.declared.tallies.Tallies.{Tallies}
+use Rattle.nomos_index.specs.declared.tally.NameUse.TheVariants as doing
+use Rattle.nomos_index.specs.declared.tally.NameUse.{NameUse}
+use Rattle.nomos_index.specs.declared.tally.Tally.{Tally}
+use Rattle.nomos_index.proofs.CountLaws.{Exchanges, channels-exchanges, fields_of, leaving-exchanges, right-come, right-put}
+use Rattle.nomos_index.proofs.MoveLaws.{moves-both, moves-still}
 use Rattle.nomos_named.specs.Counting.{fields_seen, names_used}
 use Rattle.nomos_named.specs.Tallied.{AreTalliesOf, AreTalliesOfMarked}
 use Rattle.std.specs.declared.alloc.AllocError.{AllocError}

@@ -12,11 +12,11 @@ use Rattle.nomos_machine.proofs.PutLaws.{object_at-found}
 use Rattle.nomos_parts.specs.SmallChanges.{redirected}
 use Rattle.nomos_index.specs.Redirected.{redirected_at}
 use Rattle.nomos_index.specs.NameUses.{DoesAt}
-use Rattle.nomos_tally.specs.Moving.{Moves}
-use Rattle.nomos_tally.specs.Tallying.{AreRight, names_of, only}
-use Rattle.nomos_tally.specs.declared.tallies.Tallies.{Tallies}
-use Rattle.nomos_tally.specs.declared.tally.NameUse.TheVariants as doing
-use Rattle.nomos_tally.proofs.CountLaws.{find-none, instead-exchanges, right-put}
+use Rattle.nomos_index.specs.Moving.{Moves}
+use Rattle.nomos_index.specs.Tallying.{AreRight, names_of, only}
+use Rattle.nomos_index.specs.declared.tallies.Tallies.{Tallies}
+use Rattle.nomos_index.specs.declared.tally.NameUse.TheVariants as doing
+use Rattle.nomos_index.proofs.CountLaws.{find-none, instead-exchanges, right-put}
 use Rattle.nomos_named.specs.Tallied.{AreTalliesOf}
 use Rattle.nomos_named.proofs.FindLemmas.{user-one, uses-does}
 use Rattle.nomos_named.proofs.KeepLemmas.{moved-tallied}

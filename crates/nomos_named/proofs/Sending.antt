@@ -16,7 +16,7 @@ use Rattle.nomos_index.proofs.inside.Numbers.TheSendSync as numbers
 use Rattle.nomos_index.proofs.kept.Kept.TheSendSync as kept
 use Rattle.nomos_index.specs.contracts.inside.Columns as Columns
 use Rattle.nomos_index.specs.contracts.inside.Inside as Inside
-use Rattle.nomos_tally.proofs.tallies.Tallies.TheSendSync as tallies
+use Rattle.nomos_index.proofs.tallies.Tallies.TheSendSync as tallies
 use Rattle.nomos_named.specs.contracts.tallied.Tallied as Tallied
 use Rattle.nomos_named.specs.contracts.indexed.IndexedState as IndexedState
 

@@ -108,3 +108,30 @@ names-step low v n b above =
     ap (λ (k : ℕ). count_of n (names_from low b k)) next
     ∙ count-append n (names_from low b (v - low)) (option_to_list (bound_to (low + (v - low)) b))
     ∙ ap (λ (w : ℕ). count_of n (names_from low b (v - low)) + count_of n (option_to_list (bound_to w b))) here
+
+-- the names of so many variables more, none of which has a channel
+names-more : (low k n : ℕ) (b : List (VarId × ℕ)) (d : ℕ) → ((j : ℕ) → j < d → bound_to (low + (k + j)) b ≡ None)
+    → count_of n (names_from low b (k + d)) ≡ count_of n (names_from low b k)
+names-more low k n b zero none =
+    let same : k + 0 ≡ k = omega arith in
+    ap (λ (i : ℕ). count_of n (names_from low b i)) same
+names-more low k n b (suc d) none =
+    let next : k + suc d ≡ suc (k + d) = omega arith in
+    let gone : count_of n (option_to_list (bound_to (low + (k + d)) b)) ≡ 0 =
+    ap (λ (o : Option ℕ). count_of n (option_to_list o)) (none d (omega arith)) in
+    let others = names-more low k n b d (λ j below. none j (omega arith)) in
+    ap (λ (i : ℕ). count_of n (names_from low b i)) next
+    ∙ count-append n (names_from low b (k + d)) (option_to_list (bound_to (low + (k + d)) b))
+    ∙ omega (arith, gone, others)
+
+-- the names up to a variable, where none of those that are gone over has a channel
+pub names-skip : (low v next n : ℕ) (b : List (VarId × ℕ)) → low ≤ v → v ≤ next
+    → ((w : ℕ) → v ≤ w → w < next → bound_to w b ≡ None)
+    → count_of n (names_from low b (next - low)) ≡ count_of n (names_from low b (v - low))
+names-skip low v next n b above over none =
+    let long : (v - low) + (next - v) ≡ next - low = omega arith in
+    sym (ap (λ (i : ℕ). count_of n (names_from low b i)) long)
+    ∙ names-more low (v - low) n b (next - v)
+    (λ j below.
+    let at : low + ((v - low) + j) ≡ v + j = omega arith in
+    ap (λ (w : ℕ). bound_to w b) at ∙ none (v + j) (omega arith) (omega arith))

@@ -15,11 +15,11 @@ use Rattle.nomos_machine.proofs.PutLaws.{contains-one}
 use Rattle.nomos_slots.specs.Numbers.{numbers}
 use Rattle.nomos_slots.specs.declared.numbered.Slot.{Slot}
 use Rattle.nomos_index.specs.Tidying.{without_type}
-use Rattle.nomos_tally.specs.Suspecting.{IsIdle, Suspicion, suspecting}
-use Rattle.nomos_tally.specs.Tallying.{AreRight, names_of, tallied}
-use Rattle.nomos_tally.specs.declared.tally.NameUse.{NameUse}
-use Rattle.nomos_tally.specs.declared.tally.NameUse.TheVariants as doing
-use Rattle.nomos_tally.specs.declared.tally.Tally.{Tally}
+use Rattle.nomos_index.specs.Suspecting.{IsIdle, Suspicion, suspecting}
+use Rattle.nomos_index.specs.Tallying.{AreRight, names_of, tallied}
+use Rattle.nomos_index.specs.declared.tally.NameUse.{NameUse}
+use Rattle.nomos_index.specs.declared.tally.NameUse.TheVariants as doing
+use Rattle.nomos_index.specs.declared.tally.Tally.{Tally}
 use Rattle.nomos_named.specs.Tallied.{SayRight, no_suspects}
 
 -- ---- who is mentioned, told by tallies

@@ -3,9 +3,9 @@ use Rattle.std.specs.Prelude.{◌≡◌, ℕ, Bool, true, false, List}
 use Rattle.nomos_machine.specs.Objects.{times}
 use Rattle.nomos_machine.specs.declared.object.Object.{Object}
 use Rattle.nomos_index.specs.NameUses.{DoesAt}
-use Rattle.nomos_tally.specs.Tallying.{names_of}
-use Rattle.nomos_tally.specs.declared.tally.NameUse.{NameUse}
-use Rattle.nomos_tally.specs.declared.tally.NameUse.TheVariants as doing
+use Rattle.nomos_index.specs.Tallying.{names_of}
+use Rattle.nomos_index.specs.declared.tally.NameUse.{NameUse}
+use Rattle.nomos_index.specs.declared.tally.NameUse.TheVariants as doing
 use Rattle.nomos_named.specs.declared.finding.Holder.{Holder}
 use Rattle.nomos_named.specs.declared.finding.Holder.TheVariants as found
 

@@ -3,10 +3,10 @@ use Rattle.std.specs.Prelude.{◌≡◌, ◌<◌, ◌+◌, ℕ, Bool, true, fals
 use Rattle.nomos_machine.specs.State.{NameTypes, State, type_of}
 use Rattle.nomos_slots.specs.Numbers.{IsAscending, numbers}
 use Rattle.nomos_slots.specs.declared.numbered.Slot.{Slot}
-use Rattle.nomos_tally.specs.Suspecting.{IsSuspectIfIdle, Suspicion}
-use Rattle.nomos_tally.specs.Tallying.{AreRightIf}
-use Rattle.nomos_tally.specs.declared.tallies.Tallies.{Tallies}
-use Rattle.nomos_tally.specs.declared.tally.Tally.{Tally}
+use Rattle.nomos_index.specs.Suspecting.{IsSuspectIfIdle, Suspicion}
+use Rattle.nomos_index.specs.Tallying.{AreRightIf}
+use Rattle.nomos_index.specs.declared.tallies.Tallies.{Tallies}
+use Rattle.nomos_index.specs.declared.tally.Tally.{Tally}
 use Rattle.nomos_index.specs.Indexed.{Indexed}
 use Rattle.nomos_named.specs.declared.tallied.Tallied.TheInside.{Inside}
 

@@ -6,8 +6,8 @@ ghost use Rattle.nomos_parts.specs.SmallChanges.{Becomes, with_channels, with_fi
 use crate::counting::{count_channels, uncount_channels};
 use crate::tallied::Tallied;
 use nomos_deeds::sight::{SeenProcess, Sight};
+use nomos_index::tally::{Hint, NameUse};
 use nomos_ir::ids::VarId;
-use nomos_tally::tally::{Hint, NameUse};
 use std::alloc::{AllocError, Global};
 
 impl Tallied {

@@ -4,7 +4,7 @@ ghost use Rattle.nomos_machine.specs.State.{empty};
 
 use crate::tallied::Tallied;
 use nomos_index::inside::Inside;
-use nomos_tally::tallies::Tallies;
+use nomos_index::tallies::Tallies;
 use std::alloc::{AllocError, Global};
 
 impl Tallied {

@@ -8,16 +8,16 @@ ghost use Rattle.nomos_machine.specs.declared.object.Message.{Message as Sent};
 ghost use Rattle.nomos_machine.specs.declared.object.Object.{Object as Thing};
 ghost use Rattle.nomos_machine.specs.declared.object.Process.{Process};
 ghost use Rattle.nomos_slots.specs.Numbers.{IsAscending};
-ghost use Rattle.nomos_tally.specs.Moving.{Moves};
-ghost use Rattle.nomos_tally.specs.Tallying.{channels_used, names_of, nothing};
+ghost use Rattle.nomos_index.specs.Moving.{Moves};
+ghost use Rattle.nomos_index.specs.Tallying.{channels_used, names_of, nothing};
 ghost use Rattle.nomos_named.specs.Counting.{fields_seen, names_used};
 
 use nomos_deeds::sight::{SeenProcess, Sight};
 use nomos_index::inside::Inside;
 use nomos_index::mentions::MessageNames;
+use nomos_index::tallies::Tallies;
+use nomos_index::tally::{Hint, NameUse};
 use nomos_ir::ids::VarId;
-use nomos_tally::tallies::Tallies;
-use nomos_tally::tally::{Hint, NameUse};
 
 /// The channels of a process are counted in.
 pub(crate) fn count_channels(inside: &Inside, tallies: &mut Tallies, pid: u32)
@@ -28,13 +28,18 @@ pub(crate) fn count_channels(inside: &Inside, tallies: &mut Tallies, pid: u32)
     let Some(span) = inside.span(pid) else {
         return;
     };
-    for variable in span.low..=span.high {
+    let mut variable = span.low;
+    loop {
         let name = inside.bound(pid, VarId(variable));
         let by = Hint {
             object: pid,
             variable,
         };
         tallies.exchange(NameUse::Uses, None, name, by);
+        if variable >= span.high {
+            return;
+        }
+        variable = inside.next_variable(pid, span, variable + 1);
     }
 }
 
@@ -47,13 +52,18 @@ pub(crate) fn uncount_channels(inside: &Inside, tallies: &mut Tallies, pid: u32)
     let Some(span) = inside.span(pid) else {
         return;
     };
-    for variable in span.low..=span.high {
+    let mut variable = span.low;
+    loop {
         let name = inside.bound(pid, VarId(variable));
         let by = Hint {
             object: pid,
             variable,
         };
         tallies.exchange(NameUse::Uses, name, None, by);
+        if variable >= span.high {
+            return;
+        }
+        variable = inside.next_variable(pid, span, variable + 1);
     }
 }
 

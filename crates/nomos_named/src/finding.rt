@@ -6,14 +6,14 @@ ghost use Rattle.nomos_deeds.specs.SeenObjects.{seen_message, seen_process};
 ghost use Rattle.nomos_index.specs.NameUses.{DoesAt};
 ghost use Rattle.nomos_machine.specs.Objects.{times};
 ghost use Rattle.nomos_machine.specs.Sight.{message_on, offering, owner};
-ghost use Rattle.nomos_tally.specs.Tallying.{counted, names_of};
-ghost use Rattle.nomos_tally.specs.declared.tally.NameUse.TheVariants as doings;
+ghost use Rattle.nomos_index.specs.Tallying.{counted, names_of};
+ghost use Rattle.nomos_index.specs.declared.tally.NameUse.TheVariants as doings;
 ghost use Rattle.nomos_named.specs.NameFinding.{IsFoundBy, doing_of};
 
 use crate::tallied::Tallied;
 use nomos_deeds::sight::{SeenMessage, SeenProcess, Sight};
 use nomos_deeds::unfolded_types::is_linear;
-use nomos_tally::tally::{Hint, NameUse, Tally};
+use nomos_index::tally::{Hint, NameUse, Tally};
 use nomos_types::accepted::Accepted;
 
 /// Who does something with a name.

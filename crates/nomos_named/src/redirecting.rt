@@ -5,7 +5,7 @@ ghost use Rattle.nomos_parts.specs.SmallChanges.{redirected};
 
 use crate::finding::Holder;
 use crate::tallied::Tallied;
-use nomos_tally::tally::NameUse;
+use nomos_index::tally::NameUse;
 
 impl Tallied {
     /// Whoever uses the old name uses the new one instead, an outside party too. It takes no room.

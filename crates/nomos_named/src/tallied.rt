@@ -1,7 +1,7 @@
 //! An indexed state with tallies of what its objects do with names.
 
 use nomos_index::inside::Inside;
-use nomos_tally::tallies::Tallies;
+use nomos_index::tallies::Tallies;
 use std::marker::Model;
 
 /// An indexed state, with tallies of names beside it. Contracts see the indexed state.

@@ -1,12 +1,12 @@
 //! Names that no object mentions lose their types, by tallies.
 ghost use Rattle.std.specs.Prelude.{◌≡◌, ◌≤◌, false, true};
 ghost use Rattle.nomos_machine.specs.Change.{tidied};
-ghost use Rattle.nomos_tally.specs.Suspecting.{suspecting};
+ghost use Rattle.nomos_index.specs.Suspecting.{suspecting};
 ghost use Rattle.nomos_named.specs.Tallied.{AreTalliesOf, SayRight};
 
 use crate::tallied::Tallied;
 use nomos_index::inside::Inside;
-use nomos_tally::tallies::Tallies;
+use nomos_index::tallies::Tallies;
 
 // This suspect has no type any more, and no tally, where no object mentions it.
 fn tidy_name(inside: &mut Inside, tallies: &mut Tallies, name: u32)

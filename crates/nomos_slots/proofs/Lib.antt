@@ -8,6 +8,7 @@ pub mod GapLemmas
 pub mod LevelLemmas
 pub mod LogLemmas
 pub mod MarkLemmas
+pub mod NextLemmas
 pub mod NumberLaws
 pub mod PlacesLemmas
 pub mod ProbeLemmas

@@ -33,16 +33,21 @@ with_cell (Some e) process variable name = cond (is_of process variable e) (Some
 abbrev pub entries : List Cell → ℕ
 entries cells = count_by is_some cells
 
--- a process and a variable as one number of 64 bits, scattered so that processes in any steps do not come together
+-- the block of a variable: sixteen that follow one another are of one block
+abbrev pub block : ℕ → ℕ
+block variable = variable / 16
+
+-- a process and a block as one number of 64 bits, scattered so that processes in any steps do not come together
 abbrev pub scattered : ℕ → ℕ → ℕ
-scattered process variable =
-    let sum = (process * 11400714819323198485 + variable) % 2 ^ 64 in
+scattered process number =
+    let sum = (process * 11400714819323198485 + number) % 2 ^ 64 in
     (bit_xor sum (sum / 2 ^ 32) * 11400714819323198485) % 2 ^ 64
 
--- The home of an entry: the first cell in which it may stand, of so many that are homes. The high bits tell it, so that
--- how many homes there are has no part in which entries come together.
+-- The home of an entry: the first cell in which it may stand, of so many that are homes. Variables of one block have
+-- one, so that the names of a whole block are found together. The high bits tell it, so that how many homes there are
+-- has no part in which entries come together.
 abbrev pub home : ℕ → ℕ → ℕ → ℕ
-home homes process variable = scattered process variable * homes / 2 ^ 64
+home homes process variable = scattered process (block variable) * homes / 2 ^ 64
 
 abbrev pub home_of : ℕ → NamedVariable → ℕ
 home_of homes e = home homes e.process e.variable

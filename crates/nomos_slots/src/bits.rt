@@ -7,7 +7,8 @@ ghost use Rattle.nomos_slots.specs.LowestPlace.{IsLowest};
 pub(crate) const BITS: usize = 64;
 
 /// Whether the bit is set.
-pub(crate) fn has_bit(word: u64, at: usize) -> bool
+#[inline(always)]
+pub fn has_bit(word: u64, at: usize) -> bool
     requires { at < 64 }
     ensures { result ≡ has_bit word at }
 {
@@ -15,7 +16,8 @@ pub(crate) fn has_bit(word: u64, at: usize) -> bool
 }
 
 /// The word with this bit set or cleared.
-pub(crate) fn with_bit(word: u64, at: usize, set: bool) -> u64
+#[inline(always)]
+pub fn with_bit(word: u64, at: usize, set: bool) -> u64
     requires { at < 64 }
     ensures { (i : ℕ) → i < 64 → has_bit result i ≡ cond (i == at) set (has_bit word i) }
 {

@@ -16,23 +16,26 @@ pub struct NamedVariable {
 /// Its high half is near the golden section, so that multiples of it lie far apart.
 const MULTIPLIER: u64 = 11400714819323198485;
 
-// A process and a variable as one number of 64 bits.
-fn scattered(process: u32, variable: u32) -> u64
-    ensures { result ≡ scattered process variable }
+/// How many variables that follow one another are of one block.
+pub(crate) const BLOCK: u32 = 16;
+
+// A process and a block as one number of 64 bits.
+fn scattered(process: u32, block: u32) -> u64
+    ensures { result ≡ scattered process block }
 {
     let sum = u64::from(process)
         .wrapping_mul(MULTIPLIER)
-        .wrapping_add(u64::from(variable));
+        .wrapping_add(u64::from(block));
     (sum ^ (sum >> 32)).wrapping_mul(MULTIPLIER)
 }
 
-// The first cell in which the entry of a variable of a process may stand.
-fn home(homes: usize, process: u32, variable: u32) -> usize
+/// The first cell in which the entry of a variable of a process may stand, and those of others of its block.
+pub(crate) fn home(homes: usize, process: u32, variable: u32) -> usize
     requires { 0 < homes }
     ensures home { result ≡ home homes process variable }
     ensures within { result < homes }
 {
-    let scattered = scattered(process, variable);
+    let scattered = scattered(process, variable / BLOCK);
     (u128::from(scattered) * homes as u128 >> 64) as usize
 }
 

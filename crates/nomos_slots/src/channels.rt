@@ -10,6 +10,7 @@ use crate::cells::{
     NamedVariable, bind_in, blank, cell, empty_all, fill, place_in, rebind_in, unbind_in,
 };
 use crate::column::Column;
+use crate::nexts::{block_end, next_in};
 use crate::sweeps::{drop_in, rename_in};
 use crate::users::lowest_user_in;
 use std::alloc::{AllocError, Global};
@@ -155,6 +156,26 @@ impl Channels {
             return None;
         };
         Some(entry.name)
+    }
+
+    /// The lowest variable of a process that has a name, of those from this one on that are below the limit; the limit,
+    /// where none of them has, and this one, where the limit is lower. It takes a few steps for each sixteen variables
+    /// between.
+    pub fn next_named(&self, process: u32, from: u32, limit: u32) -> u32
+        ensures over { from ≤ result }
+        ensures within { from ≤ limit → result ≤ limit }
+        ensures none { (v : ℕ) → from ≤ v → v < result → name_in self.now.now process v ≡ None }
+    {
+        let mut variable = from;
+        while variable < limit {
+            let end = block_end(variable, limit);
+            let next = next_in(&self.cells, self.homes, process, variable, end);
+            if next < end {
+                return next;
+            }
+            variable = end;
+        }
+        variable
     }
 
     /// The lowest process that has this name for one of its variables. It goes over all names.

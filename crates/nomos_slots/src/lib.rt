@@ -2,11 +2,12 @@
 #![tactic(auto)]
 
 pub mod beside;
-mod bits;
+pub mod bits;
 mod cells;
 pub mod channels;
 pub mod column;
 mod levels;
+mod nexts;
 pub mod numbered;
 pub mod places;
 pub mod shelf;

@@ -53,9 +53,9 @@ pub record CanBeSaved (t : Texts) (a : Acceptance) : Type 0 where
   pub text : List ℕ
   pub saves : Saves a last (Ok text)
 
--- There is something to report of on this program: the script reads; for a replay the journal is that of a legal one;
--- where threads submit no line is refused for that; a talk reads, a ledger can be saved, and a snapshot is loaded. The
--- script of `bench` is made.
+-- There is something to report of on this program. The script reads, and for a replay the journal is that of a legal
+-- one. Where threads submit no line is refused for that. A talk reads, a ledger can be saved, and a snapshot is loaded.
+-- The script of `bench` is made.
 abbrev pub HasReport : Task → Texts → Acceptance → Type 0
 HasReport (run file script by steps journal) t a = HasScript t
 HasReport (replay file script journal) t a =

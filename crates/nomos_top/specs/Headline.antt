@@ -80,12 +80,12 @@ pub record Course (c : Call) (t : Texts) : Type 0 where
   pub last : LedgerState
   pub tells : TellsFrom a first (take count items) c.journal passages last
 
--- A run from a ledger goes right: before each of its passages, after each front of its firings and behind it, no
--- process meets a message that it does not expect and none lacks gas, exactly the names that objects mention have a
--- type, each linear channel has exactly one owner, and all gas, in accounts, in purses and spent, is what was deposited
--- so far; accounts are debited once, at starts, and by no firing. The ledger to which it leads stands for the program.
--- It has the deposits of the first ledger and those that were carried out, and the ledger before each passage those
--- that were carried out until then.
+-- A run from a ledger goes right. This is said of the states before each of its passages, after each front of its
+-- firings and behind it. There no process meets a message that it does not expect and none lacks gas, exactly the names
+-- that objects mention have a type, and each linear channel has exactly one owner. There all gas, in accounts, in
+-- purses and spent, is what was deposited so far. Accounts are debited once, at starts, and by no firing. The ledger to
+-- which it leads stands for the program. It has the deposits of the first ledger and those that were carried out, and
+-- the ledger before each passage those that were carried out until then.
 pub record GoesRightTo (a : Acceptance) (first : LedgerState) (passages : List Passage) (last : LedgerState) : Type 0
   where
     pub right : AllGoRight a passages

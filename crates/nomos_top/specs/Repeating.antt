@@ -15,8 +15,8 @@ abbrev pub KeepTheSame : Call → Call → Type 0
 KeepTheSame c d = (text : Option (List ℕ)) × HasGot c text × HasGot d text
 
 -- Each other call of these words on these texts gives the same program, journal and status, and writes the same to the
--- output and to the journal's sink, unless reading, writing or memory fails in one of the two. Only where several
--- workers run a script, or threads submit its lines, may they differ.
+-- output and to the journal's sink. Or reading, writing or memory fails in one of the two. Only where several workers
+-- run a script, or threads submit its lines, may they differ.
 pub record Repeats (c : Call) (t : Texts) : Type 0 where
   pub repeats : (d : Call) → EndsOn d t → d.words ≡ c.words → ¬ (MayWait c.words)
       → (DoesTheSame c d × KeepTheSame c d) ⊎ (Fails c ⊎ Fails d)

@@ -31,9 +31,9 @@ pub record IsTalkTold (c : Call) (t : Texts) (r : CarriesOut c t) (name proc : L
   pub written : HasWritten c (report_of r.a r.passages ++ told_of_talk r.a lines replies)
   pub status : c.status ≡ talk_status fine c.journal.entries
 
--- A state to which a talk comes from the one in which it was opened is right: it is not wrong; each linear channel has
--- one owner, but for the party's end; all gas is there that was deposited; and the party has an end until the last one
--- is heard.
+-- A state to which a talk comes from the one in which it was opened is right. It is not wrong, and each linear channel
+-- has one owner, but for the party's end. All gas is there that was deposited, and the party has an end until the last
+-- one is heard.
 pub record IsRightIn (a : Acceptance) (l : LedgerState) (s : State) (closed : Bool) (u : State) : Type 0 where
   pub not_wrong : ¬ (Wrong a u)
   pub owned : HaveOneOwner a u

@@ -1,8 +1,10 @@
 use Rattle.std.proofs.Common.{◌+◌, ◌∙◌, [], Option, sym, subst, arith}
+use Rattle.nomos_slots.specs.Cells.{name_in}
 use Rattle.nomos_index.specs.Copying.{AreChannelsBelow}
 use Rattle.nomos_index.specs.Spanning.{HasVariable}
 use Rattle.nomos_index.specs.declared.span.Span.{Span}
-use Rattle.nomos_index.proofs.CopyLemmas.{channels-all, channels-none}
+use Rattle.nomos_index.proofs.CopyLemmas.{channels-all, channels-none, channels-skip}
+use Rattle.nomos_index.proofs.SpanLemmas.{none-by}
 use Rattle.nomos_index.proofs.plain_data.copy_channels.Goals as goal
 
 pub returns-in_default : goal.returns-in_default
@@ -15,10 +17,21 @@ returns-in_default c =
 pub loop-variable-init : goal.loop-variable-init
 loop-variable-init c =
     let cells = c.args.contents.now.channels.now in
-    let low = c.in-Some.field-0.low in
+    let low = c.in-Some.within.low in
     subst (AreChannelsBelow cells c.args.pid low) (sym c.new-made.ensures.items)
     (channels-none cells c.args.pid low
     (λ v some. (subst (λ (s : Option Span). HasVariable s v) c.in-Some.is (c.requires v some)).0))
+
+pub loop-variable-preserved : goal.loop-variable-preserved
+loop-variable-preserved c =
+    let cells = c.args.contents.now.channels.now in
+    channels-skip cells c.args.pid (c.loop-variable.variable + 1) c.push_channel.new.made.items
+    c.in_ok-push_channel.ensures c.next_in-variable.result c.next_in-variable.ensures.over
+    (λ u over below.
+    none-by (name_in cells c.args.pid u)
+    (λ some.
+    c.next_in-variable.ensures.none u over below
+    (subst (λ (s : Option Span). HasVariable s u) c.in-Some.is (c.requires u some))))
 
 pub returns : goal.returns
 returns c =

@@ -7,4 +7,4 @@ abbrev pub invariant-loop-variable : goal.invariant-loop-variable
 invariant-loop-variable l = AreChannelsBelow l.contents.channels.now l.pid l.variable l.made.items
 
 abbrev pub decreases-loop-variable : goal.decreases-loop-variable
-decreases-loop-variable l = l.high - l.variable
+decreases-loop-variable l = l.within.high - l.variable

@@ -12,4 +12,4 @@ invariant-loop-variable l = record {
 }
 
 abbrev pub decreases-loop-variable : goal.decreases-loop-variable
-decreases-loop-variable l = l.high - l.variable
+decreases-loop-variable l = l.within.high - l.variable

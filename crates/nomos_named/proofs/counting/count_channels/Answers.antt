@@ -1,12 +1,13 @@
 use Rattle.std.proofs.Common.{◌≡◌, ◌∙◌, ◌+◌, ◌-◌, ℕ, Option, refl, sym, subst, arith}
 use Rattle.std.specs.List.Sorted.{IsStrictlySortedBy}
 use Rattle.std.specs.Ordering.{nat_cmp}
-use Rattle.nomos_tally.specs.Moving.{Moves}
-use Rattle.nomos_tally.specs.Tallying.{nothing}
-use Rattle.nomos_tally.proofs.MoveLaws.{moves-still}
+use Rattle.nomos_ir.specs.Bindings.{bound_to}
+use Rattle.nomos_index.specs.Moving.{Moves}
+use Rattle.nomos_index.specs.Tallying.{nothing}
+use Rattle.nomos_index.proofs.MoveLaws.{moves-still}
 use Rattle.nomos_index.specs.Spanning.{HasVariable}
 use Rattle.nomos_index.specs.declared.span.Span.{Span}
-use Rattle.nomos_named.proofs.CountLemmas.{count-end, count-step, none-far, so_far}
+use Rattle.nomos_named.proofs.CountLemmas.{count-end, count-skip, count-step, none-by, none-far, so_far}
 use Rattle.nomos_named.proofs.counting.count_channels.Goals as goal
 
 pub returns-in_default : goal.returns-in_default
@@ -32,35 +33,36 @@ exchange-requires c = subst (IsStrictlySortedBy nat_cmp) (sym c.loop-variable.in
 
 pub loop-variable-preserved : goal.loop-variable-preserved
 loop-variable-preserved c = record {
-  above = omega (arith, c.loop-variable.invariant.above);
+  above = omega (arith, c.loop-variable.invariant.above, c.next_variable-variable.ensures.over);
   order = c.exchange.ensures.order ∙ c.loop-variable.invariant.order;
   ascending = λ p there some. c.bound-name.ensures.order p there;
   moves = λ p there.
-      count-step c.in-Some.span.low p c.args.tallies.now c.loop-variable.tallies c.exchange.new.self
-      c.loop-variable.variable
-      c.bound-name.result c.loop-variable.invariant.above (c.bound-name.ensures.name p there)
-      (c.loop-variable.invariant.moves p there) c.exchange.ensures;
+      let low = c.in-Some.span.low in
+      let v = c.loop-variable.variable in
+      let is = c.loop-variable.invariant in
+      count-skip low p (v + 1) c.next_variable-variable.result (omega (arith, is.above))
+      c.next_variable-variable.ensures.over
+      (λ w over below.
+      none-by (bound_to w p.channels)
+      (λ some.
+      c.next_variable-variable.ensures.none p there w over below
+      (subst (λ (s : Option Span). HasVariable s w) c.in-Some.is (c.span.ensures p there w some))))
+      c.args.tallies.now c.exchange.new.self
+      (count-step low p c.args.tallies.now c.loop-variable.tallies c.exchange.new.self v c.bound-name.result is.above
+      (c.bound-name.ensures.name p there) (is.moves p there) c.exchange.ensures);
 }
 
-pub returns-in-Some : goal.returns-in-Some
-returns-in-Some c p there =
-    let low = c.in-Some.span.low in
-    let v = c.loop-variable.variable in
-    let is = c.loop-variable.invariant in
-    count-end low p c.args.tallies.now c.loop-variable.tallies (v - low) (λ some. is.ascending p there (omega arith))
-    (λ w bound.
-    let within = subst (λ (s : Option Span). HasVariable s w) c.in-Some.is (c.span.ensures p there w bound) in
-    (within.0, omega (arith, within.0, within.1, is.above)))
-    (is.moves p there)
+pub loop-variable-smaller : goal.loop-variable-smaller
+loop-variable-smaller c = omega (arith, c.if-variable-span.false, c.next_variable-variable.ensures.over)
 
-pub returns-in-Some-2 : goal.returns-in-Some-2
-returns-in-Some-2 c p there =
+pub returns-then-variable-span : goal.returns-then-variable-span
+returns-then-variable-span c p there =
     let low = c.in-Some.span.low in
     let v = c.loop-variable.variable in
     let is = c.loop-variable.invariant in
     count-end low p c.args.tallies.now c.exchange.new.self (v + 1 - low) (λ some. c.bound-name.ensures.order p there)
     (λ w bound.
     let within = subst (λ (s : Option Span). HasVariable s w) c.in-Some.is (c.span.ensures p there w bound) in
-    (within.0, omega (arith, within.0, within.1, is.above)))
+    (within.0, omega (arith, within.0, within.1, is.above, c.if-variable-span.true)))
     (count-step low p c.args.tallies.now c.loop-variable.tallies c.exchange.new.self v c.bound-name.result is.above
     (c.bound-name.ensures.name p there) (is.moves p there) c.exchange.ensures)

@@ -3,10 +3,10 @@ use Rattle.std.specs.Option.{option_to_list}
 use Rattle.nomos_ir.specs.Order.{count_of}
 use Rattle.nomos_types.proofs.OccurrenceLaws.{count-append}
 use Rattle.nomos_index.specs.declared.mentions.MessageNames.{MessageNames}
-use Rattle.nomos_tally.specs.Tallying.{nothing, only}
-use Rattle.nomos_tally.specs.declared.tally.NameUse.{NameUse}
-use Rattle.nomos_tally.specs.declared.tally.NameUse.TheVariants as doing
-use Rattle.nomos_tally.proofs.MoveLaws.{moves-both}
+use Rattle.nomos_index.specs.Tallying.{nothing, only}
+use Rattle.nomos_index.specs.declared.tally.NameUse.{NameUse}
+use Rattle.nomos_index.specs.declared.tally.NameUse.TheVariants as doing
+use Rattle.nomos_index.proofs.MoveLaws.{moves-both}
 use Rattle.nomos_named.specs.Counting.{names_used}
 use Rattle.nomos_named.proofs.counting.uncount_message.Goals as goal
 

@@ -1,7 +1,7 @@
 use Rattle.std.proofs.Common.{◌∙◌, true, refl, sym, ap, subst}
 use Rattle.std.proofs.lemmas.Bool.{false≢true}
 use Rattle.nomos_machine.specs.Change.{tidied}
-use Rattle.nomos_tally.specs.Suspecting.{Suspicion}
+use Rattle.nomos_index.specs.Suspecting.{Suspicion}
 use Rattle.nomos_named.specs.Tallied.{SayRight}
 use Rattle.nomos_named.proofs.TidyLemmas.{dropped-tidied, idle-unmentioned, suspect-cleared, suspect-dropped}
 use Rattle.nomos_named.proofs.tidying.tidy_name.Goals as goal

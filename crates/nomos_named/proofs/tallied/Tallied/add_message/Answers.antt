@@ -2,9 +2,9 @@ use Rattle.std.proofs.Common.{sym, subst, arith}
 use Rattle.nomos_index.specs.Mentions.{names_in}
 use Rattle.nomos_index.specs.declared.mentions.MessageNames.{MessageNames}
 use Rattle.nomos_machine.specs.declared.object.Object.TheVariants as object
-use Rattle.nomos_tally.specs.Moving.{Moves}
-use Rattle.nomos_tally.specs.Tallying.{names_of, nothing}
-use Rattle.nomos_tally.proofs.MoveLaws.{moves-as}
+use Rattle.nomos_index.specs.Moving.{Moves}
+use Rattle.nomos_index.specs.Tallying.{names_of, nothing}
+use Rattle.nomos_index.proofs.MoveLaws.{moves-as}
 use Rattle.nomos_named.specs.Counting.{names_used}
 use Rattle.nomos_named.specs.Tallied.{AreTalliesOf}
 use Rattle.nomos_named.proofs.KeepLemmas.{come-tallied, marked-kept, message-counted}

@@ -5,8 +5,8 @@ use Rattle.nomos_index.specs.Indexed.{Indexed}
 use Rattle.nomos_machine.specs.State.{State, process_at}
 use Rattle.nomos_machine.specs.declared.object.Object.TheVariants as object
 use Rattle.nomos_parts.specs.SmallChanges.{process_born}
-use Rattle.nomos_tally.specs.Tallying.{channels_used, names_of, nothing}
-use Rattle.nomos_tally.proofs.MoveLaws.{moves-both}
+use Rattle.nomos_index.specs.Tallying.{channels_used, names_of, nothing}
+use Rattle.nomos_index.proofs.MoveLaws.{moves-both}
 use Rattle.nomos_named.specs.Counting.{fields_seen}
 use Rattle.nomos_named.specs.Tallied.{AreTalliesOf}
 use Rattle.nomos_named.proofs.KeepLemmas.{come-tallied, marked-kept, process-come, process-counted}

@@ -1,7 +1,7 @@
 use Rattle.std.proofs.Common.{◌∙◌, sym, ap}
 use Rattle.nomos_machine.specs.Objects.{times}
 use Rattle.nomos_index.specs.Indexed.{Indexed}
-use Rattle.nomos_tally.specs.Tallying.{counted_in, names_of}
+use Rattle.nomos_index.specs.Tallying.{counted_in, names_of}
 use Rattle.nomos_named.proofs.tallied.Tallied.found_by.Goals as goal
 
 pub told_by-requires : goal.told_by-requires

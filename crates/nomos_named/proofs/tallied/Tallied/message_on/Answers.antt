@@ -3,8 +3,8 @@ use Rattle.nomos_ir.specs.Order.{count_of}
 use Rattle.nomos_machine.specs.Objects.{object_at, times}
 use Rattle.nomos_index.specs.Indexed.{Indexed}
 use Rattle.nomos_index.specs.NameUses.{DoesAt}
-use Rattle.nomos_tally.specs.Tallying.{names_of}
-use Rattle.nomos_tally.specs.declared.tally.NameUse.{NameUse}
+use Rattle.nomos_index.specs.Tallying.{names_of}
+use Rattle.nomos_index.specs.declared.tally.NameUse.{NameUse}
 use Rattle.nomos_named.specs.NameFinding.{doing_of}
 use Rattle.nomos_named.proofs.FindLemmas.{message-nobody, message-one}
 use Rattle.nomos_named.proofs.tallied.Tallied.message_on.Goals as goal

@@ -7,8 +7,8 @@ use Rattle.nomos_machine.specs.Revised.{renamed}
 use Rattle.nomos_machine.specs.State.{State}
 use Rattle.nomos_machine.proofs.NameLaws.{times-one}
 use Rattle.nomos_machine.proofs.PutLaws.{object_at-found}
-use Rattle.nomos_tally.specs.Tallying.{names_of}
-use Rattle.nomos_tally.specs.declared.tally.NameUse.TheVariants as doing
+use Rattle.nomos_index.specs.Tallying.{names_of}
+use Rattle.nomos_index.specs.declared.tally.NameUse.TheVariants as doing
 use Rattle.nomos_named.proofs.KeepLemmas.{marked-kept}
 use Rattle.nomos_named.proofs.RedirectLemmas.{after_redirect, nobody-redirected, one-redirected, redirected-tallied}
 use Rattle.nomos_named.proofs.tallied.Tallied.redirect.Goals as goal

@@ -3,7 +3,7 @@ use Rattle.nomos_deeds.specs.SeenObjects.{seen_process}
 use Rattle.nomos_deeds.specs.declared.sight.SeenProcess.{SeenProcess}
 use Rattle.nomos_machine.specs.State.{process_at}
 use Rattle.nomos_parts.specs.SmallChanges.{with_fields}
-use Rattle.nomos_tally.proofs.CountLaws.{fields-exchanges, fields_of}
+use Rattle.nomos_index.proofs.CountLaws.{fields-exchanges, fields_of}
 use Rattle.nomos_named.proofs.KeepLemmas.{becomes-tallied, fields-moves, marked-kept, seen-there}
 use Rattle.nomos_named.proofs.tallied.Tallied.set_fields.Goals as goal
 

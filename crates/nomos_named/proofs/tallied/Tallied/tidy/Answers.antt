@@ -1,5 +1,5 @@
 use Rattle.std.proofs.Common.{refl, sym, subst}
-use Rattle.nomos_tally.specs.Suspecting.{Suspicion}
+use Rattle.nomos_index.specs.Suspecting.{Suspicion}
 use Rattle.nomos_named.specs.Tallied.{SayRight}
 use Rattle.nomos_named.proofs.KeepLemmas.{marked-kept}
 use Rattle.nomos_named.proofs.TidyLemmas.{tidied-tallied}

@@ -4,10 +4,10 @@ use Rattle.nomos_deeds.specs.SeenObjects.{seen_process}
 use Rattle.nomos_machine.specs.Revised.{without_channel}
 use Rattle.nomos_machine.specs.State.{process_at}
 use Rattle.nomos_ir.specs.Bindings.{bound_to}
-use Rattle.nomos_tally.specs.Moving.{Moves}
-use Rattle.nomos_tally.specs.Tallying.{only}
-use Rattle.nomos_tally.specs.declared.tally.NameUse.TheVariants as doing
-use Rattle.nomos_tally.proofs.CountLaws.{unbinding-exchanges}
+use Rattle.nomos_index.specs.Moving.{Moves}
+use Rattle.nomos_index.specs.Tallying.{only}
+use Rattle.nomos_index.specs.declared.tally.NameUse.TheVariants as doing
+use Rattle.nomos_index.proofs.CountLaws.{unbinding-exchanges}
 use Rattle.nomos_named.proofs.KeepLemmas.{becomes-tallied, marked-kept, seen-there}
 use Rattle.nomos_named.proofs.tallied.Tallied.unbind_channel.Goals as goal
 

@@ -1,3 +1,0 @@
-pub mod TallyLemmas
-pub mod MoveLaws
-pub mod CountLaws
