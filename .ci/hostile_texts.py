@@ -276,6 +276,19 @@ def forwarded(count):
             + joined(lambda i: f"wait c{i}; ", count) + "call t(n - 1;) };\n")
 
 
+def spread(count, between):
+    """So many channels of one process that calls itself, and so many names of variables between any two."""
+    def named(i):
+        others = ", ".join(f"v{i}x{j}: int" for j in range(between if i < count - 1 else 0))
+        return f"proc R first{i}(; c{i}: one) : one = fwd c{i};\nproc R filler{i}({others};) : 1 = close;\n"
+
+    channels = ", ".join(f"c{i}" for i in range(count))
+    return ("type R one = &{ go : 1 };\nproc R o(;) : one = case self { go => close };\n" + joined(named, count)
+            + f"proc T loop(n: int; {', '.join(f'c{i}: one' for i in range(count))}) = if n < 1 {{ "
+            + joined(lambda i: f"c{i}.go; wait c{i}; ", count) + f"close }} else {{ call loop(n - 1; {channels}) }};\n"
+            + "proc T t(n: int;) = " + joined(lambda i: f"spawn c{i} = o(;); ", count) + f"call loop(n; {channels});\n")
+
+
 def left_behind():
     """A contract under which 200,000 processes have left."""
     return (
@@ -296,6 +309,10 @@ def blocking():
 
 def of_ledgers():
     makes = "deposit u 0\n" + joined(lambda i: f"let c{i} = new u c(;)\n", 20000)
+    yield fired("2 channels with 9,000 variables between, 20,000 calls", spread(2, 9000),
+                "deposit u 0\nexec u t(20000;)\n")
+    yield fired("60 channels with 150 variables between any two, 5,000 calls", spread(60, 150),
+                "deposit u 0\nexec u t(5000;)\n")
     yield fired("1,600 channels that are forwarded, 60 times", forwarded(1600), "deposit u 0\nexec u t(60;)\n")
     yield fired(
         "200,000 processes that have left, and 1,000 times `show`", left_behind(),

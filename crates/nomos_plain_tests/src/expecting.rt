@@ -2,7 +2,7 @@
 ghost use Rattle.std.specs.Prelude.{◌≡◌, None};
 ghost use Rattle.nomos_machine.specs.State.{empty};
 
-use crate::runner::PlainRunner;
+use crate::runner::FormRunner;
 use nomos_accept::accepting::accept;
 use nomos_deeds::fire::Fire;
 use nomos_deeds::machine::Machine;
@@ -12,12 +12,12 @@ use std::process::Abort;
 use std::test::Fail;
 
 // A run on the plain form.
-pub(crate) type PlainRunner = PlainRunner<PlainState>;
+pub(crate) type PlainRunner = FormRunner<PlainState>;
 
 // Opens an account with so many Dths, which starts the transaction of a name.
 fn begin<M: Machine>(
     rt: &(impl Abort + AllocGlobal),
-    runner: &mut PlainRunner<M>,
+    runner: &mut FormRunner<M>,
     dths: u64,
     name: &str,
 ) -> Result<(), Fail> {
@@ -36,12 +36,12 @@ pub(crate) fn begun_on<M: Machine + Drop>(
     text: &str,
     dths: u64,
     name: &str,
-) -> Result<PlainRunner<M>, Fail>
+) -> Result<FormRunner<M>, Fail>
     requires state { M.state machine ≡ empty }
     requires marked { M.marked machine ≡ None }
 {
     let accepted = accept(rt.alloc(), text.as_bytes())?;
-    let mut runner = PlainRunner::new(accepted, machine);
+    let mut runner = FormRunner::new(accepted, machine);
     match begin(rt, &mut runner, dths, name) {
         Ok(()) => Ok(runner),
         Err(fail) => {
@@ -64,7 +64,7 @@ pub(crate) fn begun(
 // Fails unless the lowest ready process is this one, and it makes its step.
 pub(crate) fn expect_lowest<M: Machine>(
     rt: &(impl Abort + AllocGlobal),
-    runner: &mut PlainRunner<M>,
+    runner: &mut FormRunner<M>,
     pid: u32,
 ) -> Result<(), Fail> {
     match runner.fire_lowest(rt.alloc())? {

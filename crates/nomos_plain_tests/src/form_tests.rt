@@ -3,7 +3,7 @@ ghost use Rattle.std.specs.Prelude.{◌≡◌, None};
 ghost use Rattle.nomos_machine.specs.State.{empty};
 
 use crate::expecting::begun_on;
-use crate::runner::PlainRunner;
+use crate::runner::FormRunner;
 use crate::seen::write_state;
 use crate::sharing_tests::OPPOSITE;
 use nomos_deeds::machine::Machine;
@@ -59,7 +59,7 @@ const MOST_FIRINGS: u32 = 200;
 // and gives how many firings there were.
 fn write_course<M: Machine>(
     rt: &(impl Abort + AllocGlobal),
-    runner: &mut PlainRunner<M>,
+    runner: &mut FormRunner<M>,
     text: &mut String,
 ) -> Result<u32, Fail> {
     for firings in 0..MOST_FIRINGS {

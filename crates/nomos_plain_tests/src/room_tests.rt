@@ -4,7 +4,7 @@ ghost use Rattle.nomos_machine.specs.State.{empty};
 
 use crate::expecting::{begun_on, expect_lowest};
 use crate::run_tests::FORWARD;
-use crate::runner::PlainRunner;
+use crate::runner::FormRunner;
 use crate::sharing_tests::{ONCE, OPPOSITE};
 use nomos_deeds::fire::Fire;
 use nomos_deeds::machine::Machine;
@@ -21,7 +21,7 @@ const ROOM: usize = 100;
 // it does, or nothing where none is ready.
 fn fire_next<M: Machine>(
     rt: &(impl Abort + AllocGlobal),
-    runner: &mut PlainRunner<M>,
+    runner: &mut FormRunner<M>,
 ) -> Result<Option<bool>, Fail> {
     let Some(pid) = runner.lowest() else {
         return Ok(None);
@@ -38,7 +38,7 @@ fn fire_next<M: Machine>(
 // Makes room for a run, and goes on to its end: how many firings took no memory.
 fn frugal_firings<M: Machine>(
     rt: &(impl Abort + AllocGlobal),
-    runner: &mut PlainRunner<M>,
+    runner: &mut FormRunner<M>,
 ) -> Result<u32, Fail> {
     runner.reserve(ROOM)?;
     let mut count: u32 = 0;

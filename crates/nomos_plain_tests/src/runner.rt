@@ -24,13 +24,13 @@ use std::marker::Model;
 
 /// A run of an accepted program on a form of the state, which a count of calls keeps far from the greatest numbers.
 #[derive(Drop, Debug)]
-pub struct PlainRunner<M: Machine> {
+pub struct FormRunner<M: Machine> {
     accepted: Accepted,
     machine: M,
     left: u32,
 }
 
-impl<M: Machine> Model for PlainRunner<M> {
+impl<M: Machine> Model for FormRunner<M> {
     ghost use Rattle.std.specs.Prelude.{◌≡◌, None};
     ghost use Rattle.std.specs.Coded.{codes};
     ghost use Rattle.nomos_ir.specs.ValueCode.{value_code};
@@ -80,15 +80,15 @@ fn is_frugal_node(node: &CodeNode) -> bool
     )
 }
 
-impl<M: Machine> PlainRunner<M> {
+impl<M: Machine> FormRunner<M> {
     /// A run that begins with nothing.
-    pub fn new(accepted: Accepted, machine: M) -> PlainRunner<M>
+    pub fn new(accepted: Accepted, machine: M) -> FormRunner<M>
         requires state { M.state machine ≡ empty }
         requires marked { M.marked machine ≡ None }
         ensures { result.accepted ≡ accepted }
     {
         let _program = accepted.program();
-        PlainRunner {
+        FormRunner {
             accepted,
             machine,
             left: CALLS,
@@ -332,7 +332,7 @@ impl<M: Machine> PlainRunner<M> {
     }
 }
 
-impl<M: Machine + Drop> PlainRunner<M> {
+impl<M: Machine + Drop> FormRunner<M> {
     /// Goes on with another machine in the same state.
     pub fn go_on_with(&mut self, machine: M)
         requires state { M.state machine ≡ self.old.state }

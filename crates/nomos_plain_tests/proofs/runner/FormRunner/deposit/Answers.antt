@@ -1,7 +1,7 @@
 use Rattle.std.proofs.Common.{◌∙◌, arith}
 use Rattle.nomos_plain_tests.specs.PlainRuns.{Running}
 use Rattle.nomos_plain_tests.proofs.RunningLemmas.{opened-goes_on}
-use Rattle.nomos_plain_tests.proofs.runner.PlainRunner.deposit.Goals as goal
+use Rattle.nomos_plain_tests.proofs.runner.FormRunner.deposit.Goals as goal
 
 pub invariant_of-self-2 : goal.invariant_of-self-2
 invariant_of-self-2 g c =

@@ -1,6 +1,6 @@
 use Rattle.std.proofs.Common.{◌≡◌, ◌∙◌, slice_get}
 use Rattle.nomos_plain_tests.proofs.RunningLemmas.{frugal-told}
-use Rattle.nomos_plain_tests.proofs.runner.PlainRunner.is_frugal.Goals as goal
+use Rattle.nomos_plain_tests.proofs.runner.FormRunner.is_frugal.Goals as goal
 
 pub returns-in-Some-find_code : goal.returns-in-Some-find_code
 returns-in-Some-find_code g c frugal =

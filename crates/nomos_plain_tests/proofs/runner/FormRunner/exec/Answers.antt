@@ -1,7 +1,7 @@
 use Rattle.std.proofs.Common.{◌≡◌, ◌∙◌, [], sym, arith}
 use Rattle.nomos_plain_tests.specs.PlainRuns.{Running}
 use Rattle.nomos_plain_tests.proofs.RunningLemmas.{can-start, started-goes_on}
-use Rattle.nomos_plain_tests.proofs.runner.PlainRunner.exec.Goals as goal
+use Rattle.nomos_plain_tests.proofs.runner.FormRunner.exec.Goals as goal
 
 pub start-requires-clause-start : goal.start-requires-clause-start
 start-requires-clause-start g c =

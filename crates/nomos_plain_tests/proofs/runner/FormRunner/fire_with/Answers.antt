@@ -1,7 +1,7 @@
 use Rattle.std.proofs.Common.{◌∙◌, arith}
 use Rattle.nomos_plain_tests.specs.PlainRuns.{Running}
 use Rattle.nomos_plain_tests.proofs.RunningLemmas.{fired-goes_on}
-use Rattle.nomos_plain_tests.proofs.runner.PlainRunner.fire_with.Goals as goal
+use Rattle.nomos_plain_tests.proofs.runner.FormRunner.fire_with.Goals as goal
 
 pub invariant_of-self-2 : goal.invariant_of-self-2
 invariant_of-self-2 g c =

@@ -1,7 +1,7 @@
 use Rattle.std.proofs.Common.{◌∙◌}
 use Rattle.nomos_plain_tests.specs.PlainRuns.{Running}
 use Rattle.nomos_plain_tests.proofs.RunningLemmas.{cleared-goes_on}
-use Rattle.nomos_plain_tests.proofs.runner.PlainRunner.clear.Goals as goal
+use Rattle.nomos_plain_tests.proofs.runner.FormRunner.clear.Goals as goal
 
 pub invariant_of-self : goal.invariant_of-self
 invariant_of-self g c =

@@ -2,7 +2,7 @@ use Rattle.std.proofs.Common.{sym, subst}
 use Rattle.nomos_machine.specs.State.{State}
 use Rattle.nomos_plain_tests.specs.PlainRuns.{GoesOn}
 use Rattle.nomos_plain_tests.proofs.RunningLemmas.{empty-goes_on}
-use Rattle.nomos_plain_tests.proofs.runner.PlainRunner.new.Goals as goal
+use Rattle.nomos_plain_tests.proofs.runner.FormRunner.new.Goals as goal
 
 pub invariant_of-result : goal.invariant_of-result
 invariant_of-result g c = (
