@@ -49,8 +49,8 @@ pub data ComparesTypes (lists : ProgramLists) (j : Judgement) : TypeId → TypeI
       → bound_to v.0 j.linear ≡ Some own
       → ComparesTypes lists j j.offers own
 
--- The instruction needs the two amounts to be worth the same: what is paid and got with what the type says, what a
--- list argument carries with what its parameter says, and what stands at equal paths of compared types.
+-- The instruction needs the two amounts to be worth the same. These are what is paid and got with what the type says,
+-- what a list argument carries with what its parameter says, and what stands at equal paths of compared types.
 pub data AsksPair (lists : ProgramLists) (j : Judgement) (a : Account) : Amount × Amount → Type 0 where
   paid : {at : ℕ} {c : Chan} {r s : Amount} {next : CodeId} → StandsAtCode lists j (code.Pay at c r next)
       → (t : TypeId) → HasType lists j c (by_side c (node.PotOut s t) (node.PotIn s t))

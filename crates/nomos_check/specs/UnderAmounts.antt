@@ -22,7 +22,7 @@ carried_in lists = map (λ b. (b.0, b.1.amount)) lists
 abbrev pub worth_in : Annotations → List (VarId × Amount) → List (VarId × ℕ)
 worth_in x lists = map (λ b. (b.0, dths x b.1)) lists
 
--- Under the amounts the judgement k stands where the process gets to j with the account: where amounts are ignored it
+-- Under the amounts the judgement k stands where the process gets to j with the account. Where amounts are ignored it
 -- is j, no more is spent than gained, what is left is its potential, and its lists carry what the account's are worth.
 pub record StandsUnder (x : Annotations) (k j : Judgement) (a : Account) : Type 0 where
   pub ignored : ignoring k ≡ j

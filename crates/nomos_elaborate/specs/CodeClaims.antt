@@ -1,5 +1,5 @@
--- The claims of a code: each used channel, value and list is bound as what is wanted at its place, each spawned and
--- called process is declared, each binder's name is new on the way, and the labels of one `case` differ.
+-- The claims of a code. Each used channel, value and list is bound as what is wanted at its place, and each spawned and
+-- called process is declared. Each binder's name is new on the way, and the labels of one `case` differ.
 use Rattle.std.specs.Prelude.{Bool, List, [], ◌∷◌, ◌++◌, map, Option, Some, None}
 use Rattle.std.specs.List.{flat_map}
 use Rattle.nomos_elaborate.specs.NameClaim.{NameClaim, declared, new_among, bound_channel, bound_list, new_on_way, chan_claims}

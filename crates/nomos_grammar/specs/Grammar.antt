@@ -96,7 +96,7 @@ sign s = part.Terminal (terminal.Symbol s)
 abbrev pub the : Nonterminal → Part
 the n = part.Nonterminal n
 
--- what is counted: see `Counting`
+-- what is counted: see `CountedPlaces`
 abbrev pub OPEN : Part
 OPEN = part.Mark mark.OpenPart
 

@@ -12,7 +12,7 @@ pub record MayRun (a : Acceptance) (limit : ℕ) (w : WorldState) : Type 0 where
   pub objects : w.state.next_object + limit < 2 ^ 32
   pub names : w.state.next_name + limit < 2 ^ 32
 
--- The second world is the first one after at most so many firings: it stands, so that its firings are a run from its
+-- The second world is the first one after at most so many firings. It stands, so that its firings are a run from its
 -- start to its state, and it has the same origin and starts.
 pub record RunsOn (a : Acceptance) (limit : ℕ) (before after : WorldState) : Type 0 where
   pub stands : WorldStandsFor a after

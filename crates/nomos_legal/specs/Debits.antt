@@ -41,8 +41,8 @@ abbrev pub NoFiringDebits : Acceptance → State → List ℕ → Type 0
 NoFiringDebits a start pids = (k : ℕ) (s t : State) → run a start (take k pids) ≡ Some s
     → run a start (take (suc k) pids) ≡ Some t → NoBalanceFalls s t
 
--- Accounts are debited once, at starts, and by no firing: the starts of the passage's lines take from each payer their
--- bounds, and from nobody more; no firing lowers a balance; and in the ledger behind the passage no account has less
+-- Accounts are debited once, at starts, and by no firing. The starts of the passage's lines take from each payer their
+-- bounds, and from nobody more. No firing lowers a balance, and in the ledger behind the passage no account has less
 -- than where the firings began, also where the batch is undone.
 pub record DebitsOnce (a : Acceptance) (p : Passage) : Type 0 where
   pub starts : List Resolved

@@ -1,4 +1,4 @@
--- What holds in every legal journal, before and after each firing: nothing is wrong, each name has its type, each
+-- What holds in every legal journal, before and after each firing. Nothing is wrong, each name has its type, each
 -- linear channel has one owner, no gas appears or is lost, and no firing debits an account.
 use Rattle.std.specs.Prelude.{◌≡◌, ◌≤◌, ◌↔◌, ℕ, ◌*◌, List, length, All, Some, IsSome, take}
 use Rattle.nomos_ir.specs.declared.ids.TypeId.{TypeId}

@@ -53,8 +53,7 @@ module _ {a : Acceptance} (accepted : IsAccepted a) {s : State} (typed : IsTyped
       match-goes accepted typed there at w empty_next head tail full_next stands
 
   -- Where one look says that the process is ready it makes a change that leaves the state typed and keeps all gas, or
-  -- has a
-  -- fault; and otherwise it does nothing.
+  -- has a fault; and otherwise it does nothing.
   pub deed-goes : Goes a s (looks_ready a s p) (deed a s p)
   deed-goes =
       let (after, row) = own-row typed there accepted in

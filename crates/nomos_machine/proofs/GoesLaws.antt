@@ -1,6 +1,5 @@
 -- What a process of a typed state does, in one theorem's words: where one look says that it is ready, it makes a change
--- that
--- leaves the state typed and keeps all gas, or has a fault; and otherwise it does nothing.
+-- that leaves the state typed and keeps all gas, or has a fault; and otherwise it does nothing.
 use Rattle.std.proofs.Common.{◌≡◌, ◌∙◌, ◌≤◌, ℕ, ◌+◌, Bool, true, false, cond, List, length, Contains, Option, Some, None, slice_get, sym, ap, arith}
 use Rattle.std.proofs.lemmas.Bool.{le-leb}
 use Rattle.std.proofs.lemmas.List.Elements.{All-contains}

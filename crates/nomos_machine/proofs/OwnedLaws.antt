@@ -28,8 +28,7 @@ pub made-times : (does : Object → List ℕ) (name : ℕ) (s : State) (c : Chan
 made-times does name s c olds replaces = made-weight (λ o. count_of name (does o)) s c olds replaces
 
 -- A name has as many providers and users as before. For a shared name only those count that stand for it, for all
--- others
--- only its providers and its users.
+-- others only its providers and its users.
 pub record CountsAsBefore (m : Mode) (before after : State) (name : ℕ) : Type 0 where
   pub provided : m ≢ mode.S → times provided after.objects name ≡ times provided before.objects name
   pub used : m ≢ mode.S → times used after.objects name ≡ times used before.objects name

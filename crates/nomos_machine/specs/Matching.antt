@@ -30,8 +30,8 @@ pub record IsListOf (l : PotentialList) (t : ListType) : Type 0 where
   pub amount : l.amount ≡ t.amount
   pub items : All (λ v. ValueHasKind v t.kind) l.items
 
--- The process stands where the judgement does, and has what the judgement says: for each variable a value of its kind,
--- a list of its kind and amount, or a channel of a type that is alike; and nothing besides.
+-- The process stands where the judgement does, and has what the judgement says. That is for each variable a value of
+-- its kind, a list of its kind and amount, or a channel of a type that is alike; and nothing besides.
 pub record Matches (lists : ProgramLists) (x : Annotations) (types : NameTypes) (p : Process) (j : Judgement)
     : Type 0 where
   pub mode : p.mode ≡ j.mode
@@ -47,9 +47,9 @@ pub record HasBase (lists : ProgramLists) (types : NameTypes) (p : Process) : Ty
   pub base : IsSome p.base ↔ (p.mode ≡ mode.L)
   pub shared : (b : ℕ) → p.base ≡ Some b → (t : TypeId) × (type_of types b ≡ Some t) × HasMode lists t mode.S
 
--- A process is typed: it has what some judgement says that stands at its place in the program; its purse covers its
--- lists, and with what is left of it the judgement has a derivation; its payer is an account; it offers a name of its
--- own mode; and it has a base where it has to.
+-- A process is typed. It has what some judgement says that stands at its place in the program. Its purse covers its
+-- lists, and with what is left of it the judgement has a derivation. Its payer is an account, it offers a name of its
+-- own mode, and it has a base where it has to.
 pub record ProcessTyped (a : Acceptance) (types : NameTypes) (accounts : ℕ) (p : Process) : Type 0 where
   pub place : Judgement
   pub is_place : IsPlace a.program a.annotations place

@@ -22,8 +22,7 @@ is_closed heard.Closed = true
 is_closed _ = false
 
 -- The one state comes to be the other by what is said, what is heard and what is fired, in any order; and whether the
--- end
--- of the talk was heard on the way.
+-- end of the talk was heard on the way.
 pub data TalksTo (a : Acceptance) (account : ℕ) : Bool → State → State → Type 0 where
   done : (s : State) → TalksTo a account false s s
   says : (closed : Bool) (s t u : State) (what : Said) → Says a s account what t → TalksTo a account closed t u

@@ -14,7 +14,7 @@ IsChosen policy.First a s last pid = IsNextReady a s 0 pid
 IsChosen policy.Round a s last pid = IsNextReady a s last pid ⊎ (NoneReady a s last × IsNextReady a s 0 pid)
 
 -- From the first state, where the process of the first number fired last, these processes fire one after another, each
--- as the policy chooses, and they lead to the second state, where that of the second number fired last.
+-- as the policy chooses. They lead to the second state, where that of the second number fired last.
 pub data FollowsPolicy (policy : Policy) (a : Acceptance) : State → ℕ → List ℕ → State → ℕ → Type 0 where
   done : (s : State) (last : ℕ) → FollowsPolicy policy a s last [] s last
   fires : (s t u : State) (last pid end : ℕ) (pids : List ℕ) → IsChosen policy a s last pid → step a s pid ≡ Some t

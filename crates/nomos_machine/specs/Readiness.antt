@@ -12,7 +12,7 @@ use Rattle.nomos_machine.specs.declared.object.Process.{Process}
 
 module _ (a : Acceptance) (s : State) (p : Process) where
   -- At a receive and at `wait` the message has to be there, at `acquire` and `release` the provider has to stand at
-  -- `accept` and at `detach`; these two wait for others; at all other instructions nothing is waited for.
+  -- `accept` and at `detach`. These two wait for others, and at all other instructions nothing is waited for.
   abbrev pub is_met_at : CodeNode → Bool
   is_met_at (code.Case _ c arms) = is_some (present_name p c >>= message_on s.objects (not (is_own c)))
   is_met_at (code.Recv _ c y next) = is_some (present_name p c >>= message_on s.objects (not (is_own c)))

@@ -16,8 +16,7 @@ RestsSo a made limit s (rest.Faulted pid f) = (made < limit) × IsNextReady a s 
 RestsSo a made limit s rest.Steps = (made ≡ limit) × (¬ (IsQuiet a s))
 
 -- So many firings of the lowest ready process lead from the one state to the other, at most as many as may be; and
--- there
--- it is at rest.
+-- there it is at rest.
 pub record ComesToRest (a : Acceptance) (limit : ℕ) (s : State) (made : ℕ) (how : Rest) (t : State) : Type 0 where
   pub pids : List ℕ
   pub run : IsRunOf policy.First a s pids t

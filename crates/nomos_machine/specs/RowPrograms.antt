@@ -119,10 +119,10 @@ asker = record (resource_decl 0 0) { mode = mode.S; offers = type_id 23; channel
 abbrev pub two_numbers : ProcDecl
 two_numbers = record (resource_decl 0 0) { values = number_parameter 0 ∷ number_parameter 1 ∷ [] }
 
--- Each goes on at instruction 0, and where there is another way, at instruction 1. Its channel is variable 1, and a
--- second one is variable 2; what it gets as a channel is variable 3; its list is variable 4, and one that comes of it
--- is variable 5; what it gets as a value is variable 6. Its term is 7 divided by variable 0, and its test whether that
--- is less than 7.
+-- Each goes on at instruction 0, and where there is another way, at instruction 1. Its channel is variable 1, a second
+-- one is variable 2, and what it gets as a channel is variable 3. Its list is variable 4, and one that comes of it is
+-- variable 5; what it gets as a value is variable 6. Its term is 7 divided by variable 0, and its test whether that is
+-- less than 7.
 abbrev pub every_row : Acceptance
 every_row =
     acceptance

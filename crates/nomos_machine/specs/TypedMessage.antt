@@ -20,8 +20,8 @@ use Rattle.nomos_machine.specs.declared.object.Message.{Message}
 use Rattle.nomos_machine.specs.declared.object.Payload.{Payload}
 use Rattle.nomos_machine.specs.declared.object.Payload.TheVariants as payload
 
--- What a message may bring on a channel whose type unfolds to this node: whether it goes to the client, what it brings,
--- with how much gas, and the type with which the talk goes on, if it does.
+-- What a message may bring on a channel whose type unfolds to this node. It is said whether it goes to the client, what
+-- it brings, with how much gas, and the type with which the talk goes on, if it does.
 pub data Brings (lists : ProgramLists) (x : Annotations) (types : NameTypes)
     : Bool → TypeNode → Payload → ℕ → Option TypeId → Type 0 where
   own_label : (branches : List Branch) (l : Label) (t : TypeId) → goes_by branches l ≡ Some t

@@ -52,8 +52,8 @@ pub record Numbered (s : State) : Type 0 where
 
 -- ---- who provides a name, and who uses it
 
--- By the mode of its type: a name of mode R or L has one provider and one user, which for R may be an outside party;
--- one of mode T a provider alone; and for one of mode S there stands one process.
+-- By the mode of its type: a name of mode R or L has one provider and one user, which for R may be an outside party.
+-- One of mode T has a provider alone, and for one of mode S there stands one process.
 abbrev pub IsOwned : Mode → State → ℕ → Type 0
 IsOwned mode.R s name =
     (times provided s.objects name ≡ 1) × (times used s.objects name + count_of name s.outside ≡ 1)
@@ -72,7 +72,7 @@ ObjectTyped a types accounts (object.Message m) = MessageTyped a types m
 
 -- ---- critical sections
 
--- From the name one comes to a process of mode L with this base: the provider of the name is that process, or it is a
+-- From the name one comes to a process of mode L with this base. The provider of the name is that process, or it is a
 -- message, and one goes on from the end of its talk that it uses.
 pub data LeadsToBase (objects : List Object) (base : ℕ) : ℕ → Type 0 where
   at_base : (p : Process) → Contains objects (object.Process p) → p.mode ≡ mode.L → p.base ≡ Some base
@@ -92,8 +92,8 @@ pub record InSection (a : Acceptance) (s : State) (name : ℕ) (t : TypeId) : Ty
 
 -- ---- the whole state
 
--- A state is typed: its numbers and names are in order, each name has the provider and the users that its mode wants,
--- an outside party has names of mode R alone, each object is typed by itself, and each talk on an acquired contract
+-- A state is typed. Its numbers and names are in order, each name has the provider and the users that its mode wants,
+-- and an outside party has names of mode R alone. Each object is typed by itself, and each talk on an acquired contract
 -- leads back to that contract.
 pub record IsTyped (a : Acceptance) (s : State) : Type 0 where
   pub numbered : Numbered s

@@ -8,8 +8,7 @@ use Rattle.nomos_monitor.specs.declared.talk_refusal.TalkRefusal.{TalkRefusal}
 use Rattle.nomos_monitor.specs.declared.outside_talk.TalkOpening.TheVariants as opening
 
 -- A talk of the program and the account, in the state that comes of the opening; or the machine, whose state is as it
--- was
--- and is not marked.
+-- was and is not marked.
 abbrev pub OpensTo : {M : Type 0} → (M → State) → (M → Option State) → Acceptance → State → List ℕ → ℕ → TalkOpening M
     → Type 0
 OpensTo state_of marked_of a s proc account (opening.Talk t) =

@@ -1,6 +1,5 @@
 -- Talks of an outside party: a state in which it may have the one outside name, on which no channel is ever sent, and
--- its
--- account.
+-- its account.
 use Rattle.std.specs.Prelude.{◌≡◌, ◌<◌, ◌≤◌, ◌^◌, ℕ, List, Bool, false, length, Option, Some, None}
 use Rattle.nomos_ir.specs.declared.ids.TypeId.{TypeId}
 use Rattle.nomos_types.specs.Acceptance.{Acceptance}
@@ -35,8 +34,7 @@ pub record TalkState : Type 0 where
   pub account : ℕ
 
 -- Where what is answered to one who listens is the end of the talk nobody is outside; elsewhere as many names are
--- outside
--- as were.
+-- outside as were.
 abbrev pub EndsBy : Option Heard → State → State → Type 0
 EndsBy None s t = IsOutsideBy false s t
 EndsBy (Some what) s t = IsOutsideBy (is_closed what) s t
@@ -65,8 +63,8 @@ LooksOnce a s None t = FiresLowest a s t
 LooksOnce a s (Some how) t = (t ≡ s) × StopsSo a s how
 
 -- What a state is to which a talk has come from another one, whatever was said, heard and fired on the way, in any
--- order:
--- a talk that has not gone wrong, with the same gas; and nobody is outside exactly where the end of the talk was heard.
+-- order. It is a talk that has not gone wrong, with the same gas, and nobody is outside exactly where the end of the
+-- talk was heard.
 pub record TalkWentOn (a : Acceptance) (account : ℕ) (closed : Bool) (s t : State) : Type 0 where
   pub talk : IsTalk a t account
   pub right : ¬ (Wrong a t)

@@ -1,6 +1,5 @@
 -- An indexed state may go to another thread. What it keeps of values leads to a type that holds itself, for which no
--- law
--- stands by itself, so the parts stand apart here.
+-- law stands by itself, so the parts stand apart here.
 use denote.Param.Send.{IsSend, sendable}
 use Rattle.std.proofs.Crossing as crossing
 use Rattle.nomos_ir.proofs.value_node.Values.TheLaws.TheKnot as nodes

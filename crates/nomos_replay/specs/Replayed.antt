@@ -22,7 +22,7 @@ pub record IsTextFrom (v : Version) (a : Acceptance) (first : LedgerState) (item
   pub tells : TellsFrom a first items journal passages last
   pub lines : text ≡ lines_text a.annotations.unit (journal_lines v a journal.limit passages)
 
--- The text is that of a journal of the items which is legal from the first ledger, in one of the versions: these
+-- The text is that of a journal of the items which is legal from the first ledger, in one of the versions. These
 -- passages are told by the journal, whose text it is, and by the report, and lead to the ledger.
 pub record HasReplayedFrom (a : Acceptance) (first : LedgerState) (items : List ScriptItem) (text : List ℕ)
     (journal : Journal) (ledger : LedgerState) (report : List ℕ) : Type 0 where

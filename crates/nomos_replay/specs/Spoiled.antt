@@ -18,8 +18,8 @@ use Rattle.nomos_replay.specs.Told.{Told, next_limit}
 use Rattle.nomos_replay.specs.declared.error.ReplayError.{ReplayError}
 use Rattle.nomos_replay.specs.declared.error.ReplayError.TheVariants as error
 
--- The end that is found of a batch after so many firings of at most so many: the one that the state gives; where it
--- gives none, the fault of the lowest process that has one; and none where no process has one.
+-- The end that is found of a batch after so many firings of at most so many. It is the one that the state gives; where
+-- it gives none, the fault of the lowest process that has one; and none where no process has one.
 pub data Finds (a : Acceptance) (s : State) (count most : ℕ) : Option End → Type 0 where
   given : (e : End) → EndsAs a s count most e → Finds a s count most (Some e)
   aborted : (pid : ℕ) → GoesOn a s count most → (f : Fault) → fault a s pid ≡ Some f

@@ -82,7 +82,7 @@ pub data MayStand : Stand → JournalLine → Type 0 where
 
 -- ---- lines that are right
 
--- What stands behind the `line` of an item, where the ledger before it is this one: a deposit, and a batch of which a
+-- What stands behind the `line` of an item, where the ledger before it is this one. A deposit, and a batch of which a
 -- line is refused, has an end of its own; the lines of another batch start.
 pub data Opens (a : Acceptance) (v : Version) (told : Told) (items : List ScriptItem) : ScriptItem → Stand → Type 0
   where

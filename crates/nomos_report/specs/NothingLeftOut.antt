@@ -55,9 +55,8 @@ abbrev pub ShowsWaits : Acceptance → State → Type 0
 ShowsWaits a s = (p : Process) (at : ℕ) (r v : VarId) (next : CodeId) → Contains s.objects (object.Process p)
     → slice_get a.program.code p.code.0 ≡ Some (code.Acquire at r v next) → HasWaitsLine a s.objects p
 
--- Of a passage nothing is left out: not of the ledger before it, which a `show` prints, and not of the state to which
--- its
--- firings lead, whose processes that wait are printed where the batch is blocked.
+-- Of a passage nothing is left out. That is said of the ledger before it, which a `show` prints, and of the state to
+-- which its firings lead, whose processes that wait are printed where the batch is blocked.
 pub record LeavesNothingOut (a : Acceptance) (p : Passage) : Type 0 where
   pub ledger : ShowsAll a p.before
   pub waits : ShowsWaits a p.last

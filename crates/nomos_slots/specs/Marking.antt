@@ -3,8 +3,7 @@ use Rattle.std.specs.Prelude.{ℕ, List, Option, refl}
 use Rattle.std.specs.Coded.{Coded, code_by, coded×, coded_ℕ, coded_list, coded_option}
 
 -- what it holds now, what it held when it was marked, if it is, for how many changes there is room, and how many
--- records
--- the log can hold
+-- records the log can hold
 pub record Marking (X : Type 0) : Type 0 where
   pub now : List X
   pub marked : Option (List X)

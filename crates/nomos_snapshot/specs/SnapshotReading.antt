@@ -22,9 +22,8 @@ abbrev pub NoneMayStand : Acceptance → Stand → List ℕ → Type 0
 NoneMayStand a stand text =
     (l : SnapshotLine) (left : List ℕ) (next : Stand) → BeginsWith a.program text l left → ¬ (Goes a stand l next)
 
--- What is told by what is left of a text, whose first line has this number, where the text stands so: the ledger, or
--- the
--- number of the first line that is missing, or may not stand there.
+-- What is told by what is left of a text, whose first line has this number, where the text stands so. It is the ledger,
+-- or the number of the first line that is missing, or may not stand there.
 pub data Reads (a : Acceptance) : ℕ → Stand → List ℕ → Result LedgerState ℕ → Type 0 where
   ends : (at : ℕ) (g : Gathered) → Reads a at (behind g) [] (Ok (ledger_of g))
   goes : (at : ℕ) (stand next : Stand) (text left : List ℕ) (l : SnapshotLine) (answer : Result LedgerState ℕ)

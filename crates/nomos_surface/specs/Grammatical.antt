@@ -1,5 +1,5 @@
--- Which trees stand for texts: what is printed of a part has to be one of the production that stands in its place, so
--- that operators are grouped as the grammar groups them, and no choice and no `case` is empty.
+-- Which trees stand for texts. What is printed of a part has to be one of the production that stands in its place. So
+-- operators are grouped as the grammar groups them, and no choice and no `case` is empty.
 use Rattle.std.specs.Prelude.{ℕ, Bool, List, [], ◌∷◌}
 use Rattle.nomos_grammar.specs.declared.part.Nonterminal.{Nonterminal}
 use Rattle.nomos_grammar.specs.declared.part.Nonterminal.TheVariants.{SessionType, Atom, Term, Disjunction, Conjunction, Negation, Comparison, ListTerm, Sum, Product, Primary}

@@ -17,8 +17,7 @@ use Rattle.nomos_typed.specs.Owning.{AreNamesMentioned, AreNamesOwned}
 use Rattle.nomos_typed.specs.Sections.{AreInSections}
 
 -- A process stands at its place: it has what some judgement says that stands there, its purse covers its lists, and
--- with
--- what is left of it the judgement has a derivation.
+-- with what is left of it the judgement has a derivation.
 pub record IsPlaced (a : Acceptance) (types : NameTypes) (p : Process) : Type 0 where
   pub place : Judgement
   pub is_place : IsPlace a.program a.annotations place

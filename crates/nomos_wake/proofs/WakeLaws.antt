@@ -1,6 +1,5 @@
 -- The law of waking: where a state is the one before but for some changes, whoever is ready was ready before, or is
--- woken
--- by a change.
+-- woken by a change.
 use Rattle.std.proofs.Common.{◌≡◌, ◌∙◌, ◌⊎◌, inl, inr, ℕ, not, Bool, true, false, Contains, Option, Some, None, IsSome, slice_get, option_and_then, is_some, refl, sym, subst, ap}
 use Rattle.nomos_ir.specs.Bindings.{bound_to}
 use Rattle.nomos_ir.specs.declared.code_node.Chan.{Chan}

@@ -25,8 +25,8 @@ IsNoted w name q = IsTrue (contains by_both w.waiting (name, q))
 abbrev pub IsFollowed : Awake → ℕ → Type 0
 IsFollowed w name = (w.first_name ≤ name) ⊎ IsTrue (contains nat_cmp w.acquired name)
 
--- Of a crowd that waits for a shared name this process is noted, and one is told in its place as one that may be ready:
--- it is noted for the name too, is no higher, and is over the number that is sought where this one is.
+-- Of a crowd that waits for a shared name this process is noted, and one is told in its place as one that may be ready.
+-- That one is noted for the name too, is no higher, and is over the number that is sought where this one is.
 pub record HasProxy (w : Awake) (name q : ℕ) : Type 0 where
   pub noted : IsNoted w name q
   pub proxy : ℕ

@@ -8,8 +8,7 @@ use Rattle.nomos_wake.specs.Touching.{touch_of}
 use Rattle.nomos_wake.specs.declared.waking.Foreseen.{Foreseen}
 
 -- the process that fires, the number that the next object will have, what is touched, and the shared names for which
--- the
--- process and the other one that is touched wait
+-- the process and the other one that is touched wait
 pub record IsForeseen (a : Acceptance) (s : State) (pid : ℕ) (f : Foreseen) : Type 0 where
   pub fires : f.pid ≡ pid
   pub comes : f.next ≡ s.next_object

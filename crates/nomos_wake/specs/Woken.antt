@@ -24,8 +24,9 @@ pub record IsSameBut (changed : ℕ → Type 0) (heard : Bool → ℕ → Type 0
       → Contains t.objects (object.Process r) ⊎ changed r.pid
   pub messages : (m : Message) → Contains t.objects (object.Message m) → WasThere s m ⊎ heard m.to_client m.from
 
--- Whom such changes may wake, in the second state: who changed; who reads what is heard; who wants to release a process
--- that changed, and now stands at `detach`; and who wants to acquire one that changed, and now stands at `accept`.
+-- Whom such changes may wake, in the second state. These are who changed; who reads what is heard; who wants to release
+-- a process that changed, and now stands at `detach`. And it is who wants to acquire one that changed, and now stands
+-- at `accept`.
 pub data Woken (a : Acceptance) (changed : ℕ → Type 0) (heard : Bool → ℕ → Type 0) (t : State) : ℕ → Type 0 where
   itself : (q : ℕ) → changed q → Woken a changed heard t q
   client : (name q : ℕ) → heard true name → owner t name ≡ Some q → Woken a changed heard t q

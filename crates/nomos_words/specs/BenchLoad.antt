@@ -1,8 +1,8 @@
 -- The load that `bench` runs: bids that are drawn from a seed, and the script in which they are placed.
 use Rattle.std.specs.Prelude.{◌+◌, ◌*◌, ◌/◌, ◌%◌, ◌^◌, ℕ, suc, zero, List, [], ◌++◌, codes, decimal}
 
--- The text of the auction that is run: wallets that coins are stored in; an auction that keeps the best coin and gives
--- each other one back to a wallet; those who place bids and ask for the best.
+-- The text of the auction that is run. It has wallets that coins are stored in, and an auction that keeps the best coin
+-- and gives each other one back to a wallet. It has those who place bids and ask for the best.
 unfoldable pub auction_text : List ℕ
 auction_text =
     codes "type R coin = &{ value : int /\\ coin | melt : 1 };\n"

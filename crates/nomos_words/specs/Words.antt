@@ -17,10 +17,9 @@ pub data Task : Type 0 where
   -- the least bounds of the contract in this file are sought
   least : (file : List ℕ) → Task
   -- the script in the second file is run on the contract in the first, with its single lines in an order in which so
-  -- many
-  -- threads submit them
+  -- many threads submit them
   pool : (file script : List ℕ) (threads : ℕ) → Task
-  -- the script in the second file is run on the contract in the first, and behind it a party from outside, for whom the
+  -- the script in the second file is run on the contract in the first. Behind it a party from outside, for whom the
   -- account of this name pays, talks on a channel that the process of this name offers, as the text in this file says
   talk : (file script name proc text : List ℕ) → Task
   -- the script in the second file is run on the contract in the first, and the ledger is saved in the third

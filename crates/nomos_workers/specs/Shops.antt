@@ -19,7 +19,7 @@ pub record ShopState : Type 0 where
 abbrev pub shop_of : Acceptance → WorldState → ℕ → ShopState
 shop_of a w limit = record { accepted = a; world = w; limit = limit }
 
--- What holds of every shop: its world stands for the program and has no more firings than it may make, and the next
+-- What holds of every shop. Its world stands for the program and has no more firings than it may make, and the next
 -- numbers of its start are far enough from the greatest for so many.
 pub record IsShop (s : ShopState) : Type 0 where
   pub stands : WorldStandsFor s.accepted s.world

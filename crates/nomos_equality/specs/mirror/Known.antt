@@ -79,8 +79,7 @@ pub record IsSpread (lists : ProgramLists) (u v : TypeId) (pairs : List (TypeId 
   pub paid : NotesPaid lists u v amounts
 
 -- all that follows from two types is gathered: each pair was there or is spread, each amount was there or stands at
--- equal
--- paths
+-- equal paths
 pub record HasGathered (lists : ProgramLists) (a b : TypeId) (old new : Known) : Type 0 where
   pub met : IsMet lists (Among new.pairs) a b
   pub pairs : (u v : TypeId) → Contains new.pairs (u, v) →

@@ -15,7 +15,7 @@ use Rattle.nomos_visit.specs.Visits.{numbers_of, told_of_talk}
 use Rattle.nomos_visit.specs.declared.held.HeldTalk.{HeldTalk}
 use Rattle.nomos_visit.specs.declared.held.ToldTalk.{ToldTalk}
 
--- What holds of a talk that is held, where so many lines are left: it is printed as one of its program, and there is a
+-- What holds of a talk that is held, where so many lines are left. It is printed as one of its program, and there is a
 -- number for each firing and for each line that is left.
 pub record IsHeld {M : Type 0} (h : HeldTalk M) (lines : ℕ) : Type 0 where
   pub program : h.accepted.now ≡ h.talk.a

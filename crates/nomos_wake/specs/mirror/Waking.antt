@@ -23,8 +23,7 @@ pub record StandsAt (a : Acceptance) (t : State) (number : ℕ) (r : Process) (n
   pub stands : slice_get a.program.code r.code.0 ≡ Some n
 
 -- The process of a number, if there is one, may be ready, and so may who meets it where it stands, or another one in
--- its
--- place.
+-- its place.
 pub record WakesBy (a : Acceptance) (t : State) (number : ℕ) (v w : Awake) : Type 0 where
   pub itself : (r : Process) → process_at t number ≡ Some r → MayBeReady w number
   pub tells : Tells v w
