@@ -1,7 +1,0 @@
-use denote.Exit.{yes}
-use denote.Param.Send.{arg_send, param_send}
-use Rattle.nomos_named.proofs.Sending.{state_sends}
-use Rattle.nomos_report_tests.proofs.told_scripts.ran.Goals as goal
-
-pub run_script_by_crew-requires-send-M : goal.run_script_by_crew-requires-send-M
-run_script_by_crew-requires-send-M g c κs within = param_send 0 _ (arg_send _ yes _ state_sends)

@@ -1,0 +1,2 @@
+mod LegalLemmas
+mod WorldLemmas

@@ -1,4 +1,0 @@
-use Rattle.nomos_snapshot_tests.proofs.carried_tests.told_first.Goals as goal
-
-pub told_from-requires : goal.told_from-requires
-told_from-requires c = c.empty.ensures.stands c.args.accepted.now
