@@ -319,6 +319,11 @@ def of_ledgers():
         "deposit u 0\nlet p = new u c(200000;)\nexec u f(; p)\n" + "show\n" * 1000, 0, "deposits 0")
     yield fired(
         "20,000 batches that block beside 20,000 contracts", blocking(), makes + "exec u z(; c5)\n" * 20000, 3, "")
+    yield Row(
+        "all 20,000,000 firings that a script may make, by four workers",
+        "proc T loop(n: int;) = if n < 1 { close } else { call loop(n - 1;) };\n",
+        "deposit u 0\n" + "exec u loop(4999998;)\n" * 2 + "exec u loop(3;)\n" * 2,
+        ["--steps", "10000000", "--workers", "4"], 3, "line 5 steps 0")
 
 
 # ---- what is printed, of which there is no bound

@@ -9,6 +9,8 @@ use atomic_table::{Refused, Seat, Table};
 use std::alloc::Global;
 use std::snapshot::Snapshot;
 use std::sync::Wait;
+use std::thread::Parker;
+use std::time::Duration;
 use std::{hint, thread};
 
 // The words: tickets drawn, turns served, entries of the history, each modulo 2^64.
@@ -21,15 +23,22 @@ const COUNT: usize = 2;
 // The slot of the work.
 const WORK: usize = 0;
 
-// So often a pass looks for its turn before it lets other threads go on between two looks.
-const LOOKS: u32 = 200;
+// So often a pass looks for its turn before it lets other threads go on between two looks, and before it sleeps.
+const QUICK_LOOKS: u32 = 200;
 
-// What a pass does behind so many looks in vain: it waits a moment, or lets other threads go on.
-fn pause(looks: u32) {
-    if looks < LOOKS {
+const LOOKS_AWAKE: u32 = 400;
+
+// How long it sleeps between two looks, in microseconds.
+const SLEEP: u64 = 50;
+
+// What a pass does behind so many looks in vain: it waits a moment, lets other threads go on, or sleeps.
+fn pause<R: Wait>(rt: &R, looks: u32) {
+    if looks < QUICK_LOOKS {
         hint::spin_loop();
-    } else {
+    } else if looks < LOOKS_AWAKE {
         thread::yield_now();
+    } else {
+        Parker::new().park_timeout(rt, Duration::from_micros(SLEEP));
     }
 }
 
@@ -140,7 +149,7 @@ impl<W: Shared> Floor<W> {
             if self.table.shared.load::<Look<W>>(seat, SERVING) == ticket {
                 return;
             }
-            pause(looks);
+            pause(rt, looks);
             looks = looks.saturating_add(1);
         }
         unreachable!()

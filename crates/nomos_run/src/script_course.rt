@@ -26,7 +26,8 @@ use nomos_types::accepted::Accepted;
 use nomos_walk::entries::keep;
 use nomos_walk::started::{BatchUnderWay, PassedItem, StartedItem};
 use nomos_walk::walk::Walk;
-use nomos_workers::look::{look, told_end};
+use nomos_workers::elsewhere::Elsewhere;
+use nomos_workers::look::{Looker, look, told_end};
 use nomos_workers::trade::{KnownOutcome, Seeks, Turned};
 use std::alloc::{AllocError, Global};
 use std::marker::Model;
@@ -202,12 +203,12 @@ fn look_under<M: Undo + Drop>(
     alloc: Global,
     trail: &Trail<'_>,
     phase: &mut Phase<M>,
-    by: (u32, &Seeks),
+    looker: Looker<'_>,
 ) -> Option<Result<Turned<Wanted, End>, AllocError>>
     requires phase { IsPhase trail.now phase.old }
-    requires known { IfSome by.1.now.known (IsKnown trail.now.accepted.now) }
+    requires known { IfSome looker.seeks.now.known (IsKnown trail.now.accepted.now) }
     ensures phase { IsPhase trail.now phase.new }
-    ensures history { AddsAtMostOne by.entry.0 (firings_told (phase_firings phase.old))
+    ensures history { AddsAtMostOne looker.entry.pass (firings_told (phase_firings phase.old))
         (firings_told (phase_firings phase.new)) }
     ensures turns { MatchOption result (IsNotUnder phase.old × (phase.new ≡ phase.old))
         (λ turned. IfOk turned (TurnsOut (λ _. Unit {0}) (IsEndOf trail.now phase.new))) }
@@ -215,7 +216,13 @@ fn look_under<M: Undo + Drop>(
     let Phase::Under(under) = phase else {
         return None;
     };
-    Some(look(alloc, trail.accepted, &mut under.watched, under.limit, by))
+    Some(look(
+        alloc,
+        trail.accepted,
+        &mut under.watched,
+        under.limit,
+        looker,
+    ))
 }
 
 // Starts the next item, if there is one and memory was never wanting. Says whether there was one.
@@ -275,6 +282,7 @@ fn end_under<M: Undo + Drop>(
 pub(crate) struct ScriptCourse<'a, M: Undo> {
     trail: Trail<'a>,
     phase: Phase<M>,
+    elsewhere: Elsewhere,
 }
 
 impl<'a, M: Undo> Model for ScriptCourse<'a, M> {
@@ -325,6 +333,7 @@ impl<'a, M: Undo + Drop> ScriptCourse<'a, M> {
                 fired: Vec::new(alloc),
             },
             phase: Phase::Between(from),
+            elsewhere: Elsewhere::none(),
         }
     }
 
@@ -335,7 +344,11 @@ impl<'a, M: Undo + Drop> ScriptCourse<'a, M> {
         ensures err { OnErr result.1 (RunsSoFar self.entry.accepted empty_ledger self.entry.items self.entry.orders
             result.0.entries.items) }
     {
-        let ScriptCourse { trail, phase } = self;
+        let ScriptCourse {
+            trail,
+            phase,
+            elsewhere: _elsewhere,
+        } = self;
         let whole = trail.next == trail.items.len();
         match phase {
             Phase::Between(ledger) if whole => (trail.way, Ok(ledger)),
@@ -366,7 +379,13 @@ impl<'a, M: Undo + Drop> CarriedCourse for ScriptCourse<'a, M> {
         seeks: &Seeks,
     ) -> Result<Turned<AskedOf<'a>, CourseStop>, AllocError> {
         let accepted = self.trail.accepted;
-        let Some(turned) = look_under(alloc, &self.trail, &mut self.phase, (pass, seeks)) else {
+        self.elsewhere.put_down(pass);
+        let looker = Looker {
+            pass,
+            seeks,
+            elsewhere: &self.elsewhere,
+        };
+        let Some(turned) = look_under(alloc, &self.trail, &mut self.phase, looker) else {
             if start_next(alloc, &mut self.trail, &mut self.phase)? {
                 return Ok(Turned::Goes(seeks.after));
             }
@@ -374,7 +393,11 @@ impl<'a, M: Undo + Drop> CarriedCourse for ScriptCourse<'a, M> {
         };
         match turned? {
             Turned::Goes(pid) => Ok(Turned::Goes(pid)),
-            Turned::Wants(pid, wanted) => Ok(Turned::Wants(pid, AskedOf { accepted, wanted })),
+            Turned::Rests => Ok(Turned::Rests),
+            Turned::Wants(pid, wanted) => {
+                self.elsewhere.take(pass, pid);
+                Ok(Turned::Wants(pid, AskedOf { accepted, wanted }))
+            }
             Turned::Ends(found) => {
                 end_under(alloc, &mut self.trail, &mut self.phase, found)?;
                 Ok(Turned::Goes(seeks.after))

@@ -104,14 +104,14 @@ fn run_shop<C: CarriedCourse + Send, G: Gate, R: Threads + Wait + Sync>(
 fn run_course<C: CarriedCourse + Send, G: Gate, R: Threads + Wait + Sync>(
     rt: &R,
     alloc: Global,
-    course: C,
+    course: Box<C>,
     workers: u32,
     gate: &G,
 ) -> C
-    requires fresh { history_of (C.state course) ≡ [] }
+    requires fresh { history_of (C.state course.value) ≡ [] }
     requires some { 0 < workers }
     requires few { workers + 1 < 2 ^ 32 }
-    ensures { opening (C.state result) ≡ opening (C.state course) }
+    ensures { opening (C.state result) ≡ opening (C.state course.value) }
 {
     run_shop(rt, alloc, ScriptShop::of(course), workers, gate).into_course()
 }
@@ -147,6 +147,9 @@ pub fn run_script_by_crew<M: Undo + Drop + Send, G: Gate, R: Threads + Wait + Sy
     };
     let items = script.items().as_slice();
     let course = ScriptCourse::new(accepted, orders, items, way, from);
+    let Ok(course) = Box::new(alloc, course) else {
+        return end_at_once(alloc, orders.limit);
+    };
     let course = run_course(runner.rt, alloc, course, workers, runner.gate);
     let (way, last) = course.into_last();
     end(way, orders.limit, last)

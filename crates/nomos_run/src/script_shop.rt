@@ -46,10 +46,11 @@ pub(crate) trait CarriedCourse: Drop {
         ensures { IfOk result (IsKnown (asked_of asked)) };
 }
 
-/// A script under way as a work that workers take in turns. Contracts see what it began with and its firings so far.
+/// A script under way as a work that workers take in turns. Contracts see what it began with and its firings so far. It
+/// is moved at each firing, and so it is a pointer.
 #[derive(Drop)]
 pub(crate) struct ScriptShop<C: CarriedCourse> {
-    course: C,
+    course: Box<C>,
 }
 
 impl<C: CarriedCourse> Model for ScriptShop<C> {
@@ -61,7 +62,7 @@ impl<C: CarriedCourse> Model for ScriptShop<C> {
 
     ghost coded = { Prim.hlevel (codes, value_code) };
 
-    ghost view = { λ s. C.state s.course };
+    ghost view = { λ s. C.state s.course.value };
 }
 
 impl<C: CarriedCourse> Shared for ScriptShop<C> {
@@ -111,8 +112,8 @@ impl<C: CarriedCourse> Trade for ScriptShop<C> {
 
 impl<C: CarriedCourse> ScriptShop<C> {
     /// The shop of this script.
-    pub(crate) fn of(course: C) -> ScriptShop<C>
-        ensures { result ≡ C.state course }
+    pub(crate) fn of(course: Box<C>) -> ScriptShop<C>
+        ensures { result ≡ C.state course.value }
     {
         ScriptShop { course }
     }
@@ -121,6 +122,6 @@ impl<C: CarriedCourse> ScriptShop<C> {
     pub(crate) fn into_course(self) -> C
         ensures { C.state result ≡ self }
     {
-        self.course
+        Box::into_inner(self.course)
     }
 }

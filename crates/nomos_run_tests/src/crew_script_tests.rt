@@ -2,7 +2,7 @@
 ghost use Rattle.nomos_workers.specs.Crews.{IsCrew};
 
 use crate::crew_telling::{SAY, TWO_SAY, expect_again, tell};
-use crate::gates::{CountingGate, MeetingGate, NotingGate};
+use crate::gates::{CountingGate, MeetingGate, NotingGate, TwoBatchesGate};
 use crate::told_scripts::ToldScript;
 use nomos_machine::policy::Policy;
 use nomos_workers::batch::Crew;
@@ -107,6 +107,27 @@ fn expect_meeting<R: Abort + AllocGlobal + Threads + Wait + Sync>(
 fn all_workers_meet(rt: HostRuntime) -> Result<(), Fail> {
     expect_meeting(&rt, 4)?;
     expect_meeting(&rt, 16)
+}
+
+const TWO_BATCHES: &str = "deposit u 0
+begin
+exec u say(1;)
+exec u say(2;)
+end
+begin
+exec u say(3;)
+exec u say(4;)
+end
+";
+
+// Workers are made once for a script: those that meet in its first batch meet in its second one.
+#[test]
+fn the_same_workers_go_on(rt: HostRuntime) -> Result<(), Fail> {
+    let gate = TwoBatchesGate::of(2, 2);
+    let texts = (SAY, TWO_BATCHES);
+    let told = tell(&rt, texts, Crew::Many(2), &gate);
+    assert!(rt; gate.have_met_twice());
+    expect_again(&rt, texts, &told)
 }
 
 // One transaction emits what it is given, another one has no terms.

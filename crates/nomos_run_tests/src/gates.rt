@@ -114,3 +114,37 @@ impl Gate for MeetingGate {
         }
     }
 }
+
+/// A gate at which all workers meet twice: in a batch whose processes have numbers up to one, and behind it.
+#[derive(Drop)]
+pub(crate) struct TwoBatchesGate {
+    last_of_first: u32,
+    first: MeetingGate,
+    second: MeetingGate,
+}
+
+impl TwoBatchesGate {
+    /// A gate for so many workers, which nobody has called; the first batch has processes up to this number.
+    pub(crate) fn of(workers: u32, last_of_first: u32) -> TwoBatchesGate {
+        TwoBatchesGate {
+            last_of_first,
+            first: MeetingGate::of(workers),
+            second: MeetingGate::of(workers),
+        }
+    }
+
+    /// Whether the workers, whose numbers begin at 1, and no others, have met in both batches.
+    pub(crate) fn have_met_twice(&self) -> bool {
+        self.first.have_met() && self.second.have_met()
+    }
+}
+
+impl Gate for TwoBatchesGate {
+    fn before_eval(&self, worker: u32, pid: u32) {
+        if pid <= self.last_of_first {
+            self.first.before_eval(worker, pid);
+        } else {
+            self.second.before_eval(worker, pid);
+        }
+    }
+}

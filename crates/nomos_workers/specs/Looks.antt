@@ -16,3 +16,4 @@ abbrev pub TurnsOut : {A S : Type 0} → (A → Type 0) → (S → Type 0) → T
 TurnsOut may_ask may_stop (turned.Goes pid) = Unit {0}
 TurnsOut may_ask may_stop (turned.Ends stop) = may_stop stop
 TurnsOut may_ask may_stop (turned.Wants pid asked) = may_ask asked
+TurnsOut may_ask may_stop turned.Rests = Unit {0}

@@ -2,6 +2,7 @@
 #![tactic(auto)]
 
 pub mod batch;
+pub mod elsewhere;
 pub mod gate;
 pub mod look;
 pub mod one;

@@ -12,6 +12,7 @@ ghost use Rattle.nomos_workers.specs.Looks.{IsKnown, TurnsOut};
 ghost use Rattle.nomos_workers.specs.declared.batch.BatchEnd.TheVariants as batch_end;
 ghost use Rattle.nomos_workers.specs.Shops.{IsShop, history_of, opening, shop_of};
 
+use crate::elsewhere::Elsewhere;
 use crate::trade::{KnownOutcome, Seeks, Turned};
 use nomos_deeds::fire::Fire;
 use nomos_deeds::undo::Undo;
@@ -21,6 +22,71 @@ use nomos_ledger::world::World;
 use nomos_legal::journal::{End, Firing};
 use nomos_types::accepted::Accepted;
 use std::alloc::{AllocError, Global};
+
+/// Who looks: a pass, where and with what it seeks, and what all workers have in hand.
+#[derive(Clone, Copy)]
+pub struct Looker<'a> {
+    pub pass: u32,
+    pub seeks: &'a Seeks,
+    pub elsewhere: &'a Elsewhere,
+}
+
+// So often a worker has rested when it takes what another one has in hand.
+const RESTS: u32 = 64;
+
+// So many ready processes a look goes past that others have in hand.
+const PASSED_BY: u32 = 16;
+
+// A ready process that no other worker has in hand, from the one that was found on; or none, where so many are with
+// others.
+fn free_one<M: Undo>(
+    accepted: &Accepted,
+    watched: &mut Watched<M>,
+    found: u32,
+    looker: Looker<'_>,
+) -> Option<u32>
+    requires stands { WorldStandsFor accepted.now watched.old.world }
+    requires watched { IsWatched accepted.now watched.old.world.state watched.old.awake }
+    requires ready { IsReady accepted.now watched.old.world.state found }
+    ensures world { watched.new.world ≡ watched.old.world }
+    ensures watched { IsWatched accepted.now watched.new.world.state watched.new.awake }
+    ensures free { IfSome result (IsReady accepted.now watched.old.world.state) }
+{
+    let mut pid = found;
+    'passed: for _ in 0..PASSED_BY {
+        if !looker.elsewhere.is_with_another(looker.pass, pid) {
+            return Some(pid);
+        }
+        let next = watched.any_ready(accepted, pid)?;
+        if next == found {
+            return None;
+        }
+        pid = next;
+    }
+    None
+}
+
+// The ready process that this worker goes on with, where one was found; or none, if others have all in hand. Who has
+// rested long takes the one that was found.
+fn chosen_one<M: Undo>(
+    accepted: &Accepted,
+    watched: &mut Watched<M>,
+    found: u32,
+    looker: Looker<'_>,
+) -> Option<u32>
+    requires stands { WorldStandsFor accepted.now watched.old.world }
+    requires watched { IsWatched accepted.now watched.old.world.state watched.old.awake }
+    requires ready { IsReady accepted.now watched.old.world.state found }
+    ensures world { watched.new.world ≡ watched.old.world }
+    ensures watched { IsWatched accepted.now watched.new.world.state watched.new.awake }
+    ensures chosen { IfSome result (IsReady accepted.now watched.old.world.state) }
+{
+    if looker.seeks.rests >= RESTS {
+        Some(found)
+    } else {
+        free_one(accepted, watched, found, looker)
+    }
+}
 
 // What is to be evaluated of a process before it fires, if anything is and nothing was evaluated.
 fn asked<M: Undo>(
@@ -67,22 +133,22 @@ fn fire<M: Undo>(
 }
 
 /// What a look at a batch under way comes to, which may make so many firings, by this pass: an end, a process that is
-/// to be evaluated first, or one that fired.
+/// to be evaluated first, one that fired, or a rest, where others evaluate all that are ready.
 pub fn look<M: Undo>(
     alloc: Global,
     accepted: &Accepted,
     watched: &mut Watched<M>,
     limit: u32,
-    by: (u32, &Seeks),
+    looker: Looker<'_>,
 ) -> Result<Turned<Wanted, End>, AllocError>
     requires shop { IsShop (shop_of accepted.now watched.old.world limit) }
     requires watched { IsWatched accepted.now watched.old.world.state watched.old.awake }
-    requires known { IfSome by.1.now.known (IsKnown accepted.now) }
+    requires known { IfSome looker.seeks.now.known (IsKnown accepted.now) }
     ensures shop { IsShop (shop_of accepted.now watched.new.world limit) }
     ensures watched { IsWatched accepted.now watched.new.world.state watched.new.awake }
     ensures start { opening (shop_of accepted.now watched.new.world limit)
         ≡ opening (shop_of accepted.now watched.old.world limit) }
-    ensures history { AddsAtMostOne by.entry.0 (history_of (shop_of accepted.now watched.old.world limit))
+    ensures history { AddsAtMostOne looker.entry.pass (history_of (shop_of accepted.now watched.old.world limit))
         (history_of (shop_of accepted.now watched.new.world limit)) }
     ensures turns { IfOk result (TurnsOut (λ _. Unit {0})
         (IsAllowed accepted.now watched.new.world.state (length watched.new.world.firings) limit)) }
@@ -90,16 +156,23 @@ pub fn look<M: Undo>(
     // Where the program is read it is known to be accepted.
     let _program = accepted.program();
     watched.watch(alloc, accepted);
-    let ready = watched.any_ready(accepted, by.1.after);
+    let ready = watched.any_ready(accepted, looker.seeks.after);
     if let Some(end) = watched.end_where(accepted, limit, ready) {
         return Ok(Turned::Ends(end));
     }
-    let Some(pid) = ready else { unreachable!() };
-    let known = by.1.known.as_ref();
+    let Some(found) = ready else { unreachable!() };
+    let Some(pid) = chosen_one(accepted, watched, found, looker) else {
+        return Ok(Turned::Rests);
+    };
+    let known = looker.seeks.known.as_ref();
     if let Some(wanted) = asked(alloc, accepted, watched, pid, known)? {
         return Ok(Turned::Wants(pid, wanted));
     }
-    match fire(alloc, accepted, watched, Firing { pass: by.0, pid }, known)? {
+    let firing = Firing {
+        pass: looker.pass,
+        pid,
+    };
+    match fire(alloc, accepted, watched, firing, known)? {
         Fire::Fired => Ok(Turned::Goes(pid)),
         Fire::Faulted(fault) => Ok(Turned::Ends(End::Aborted(pid, fault))),
     }

@@ -6,7 +6,8 @@ ghost use Rattle.nomos_workers.specs.declared.batch.BatchEnd.TheVariants as batc
 ghost use Rattle.nomos_workers.specs.Shops.{HasRun, IsShop, history_of, opening, shop_of};
 
 use crate::batch::BatchEnd;
-use crate::look::look;
+use crate::elsewhere::Elsewhere;
+use crate::look::{Looker, look};
 use crate::trade::{KnownOutcome, Seeks, Trade, Turned};
 use nomos_deeds::undo::Undo;
 use nomos_eval::wanted::{Wanted, evaluate};
@@ -25,6 +26,7 @@ pub struct Shop<A: Lent, M: Undo + Drop> {
     lent: A,
     watched: Watched<M>,
     limit: u32,
+    elsewhere: Elsewhere,
 }
 
 impl<A: Lent, M: Undo + Drop> Model for Shop<A, M> {
@@ -83,17 +85,24 @@ impl<A: Lent, M: Undo + Drop> Trade for Shop<A, M> {
         pass: u32,
         seeks: &Seeks,
     ) -> Result<Turned<AskedOutside<A>, BatchEnd>, AllocError> {
-        let by = (pass, seeks);
+        self.elsewhere.put_down(pass);
+        let looker = Looker {
+            pass,
+            seeks,
+            elsewhere: &self.elsewhere,
+        };
         match look(
             alloc,
             self.lent.accepted(),
             &mut self.watched,
             self.limit,
-            by,
+            looker,
         )? {
             Turned::Goes(pid) => Ok(Turned::Goes(pid)),
+            Turned::Rests => Ok(Turned::Rests),
             Turned::Ends(end) => Ok(Turned::Ends(BatchEnd::Done(end))),
             Turned::Wants(pid, wanted) => {
+                self.elsewhere.take(pass, pid);
                 let lent = self.lent.again();
                 Ok(Turned::Wants(pid, AskedOutside { lent, wanted }))
             }
@@ -131,6 +140,7 @@ impl<A: Lent, M: Undo + Drop> Shop<A, M> {
             lent,
             watched,
             limit,
+            elsewhere: Elsewhere::none(),
         }
     }
 
@@ -152,6 +162,7 @@ impl<A: Lent, M: Undo + Drop> Shop<A, M> {
             lent: _lent,
             watched,
             limit: _limit,
+            elsewhere: _elsewhere,
         } = self;
         watched
     }

@@ -15,11 +15,13 @@ pub struct KnownOutcome {
     pub outcome: Outcome,
 }
 
-/// Over which process a worker looks for its next one, and what it has evaluated, if anything.
+/// Over which process a worker looks for its next one, what it has evaluated, if anything, and how often it has rested,
+/// less one for each turn in which it went on.
 #[derive(Drop)]
 pub struct Seeks {
     pub after: u32,
     pub known: Option<KnownOutcome>,
+    pub rests: u32,
 }
 
 /// What a look of a worker comes to.
@@ -31,6 +33,8 @@ pub enum Turned<A, S> {
     Ends(S),
     /// This process is to be evaluated first, of which this is asked.
     Wants(u32, A),
+    /// Each process that is ready is evaluated by another worker: this one rests.
+    Rests,
 }
 
 /// A work that workers carry on in turns, look by look; a look adds one entry at most. A worker tells something of the

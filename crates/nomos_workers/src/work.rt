@@ -11,9 +11,16 @@ use crate::trade::{Seeks, Trade, Turned};
 use nomos_floor::floor::{Floor, Pass, Turn};
 use std::alloc::{AllocError, Global};
 use std::sync::Wait;
+use std::thread::Parker;
+use std::time::Duration;
 
 // The most looks of one turn, each of which makes a firing at most.
 const LOOKS_IN_A_TURN: u32 = 256;
+
+// The shortest rest, in microseconds, and how often it is doubled at most.
+const SHORTEST_REST: u64 = 16;
+
+const DOUBLINGS: u32 = 7;
 
 /// What a worker comes to: its pass, and how it stopped.
 #[derive(Drop)]
@@ -39,6 +46,7 @@ struct Took<W: Trade> {
 #[derive(Drop)]
 pub(crate) enum GoesOn<S> {
     Seeks(Seeks),
+    Rests,
     Ends(S),
 }
 
@@ -75,6 +83,7 @@ fn carry_on<W: Trade>(
         seeks = Seeks {
             after: pid,
             known: None,
+            rests: 0,
         };
     }
     let turned = turn.work.step(alloc, number, &seeks);
@@ -123,6 +132,7 @@ fn evaluate_asked<W: Trade, G: Gate>(
         Ok(known) => GoesOn::Seeks(Seeks {
             after: pid.saturating_sub(1),
             known: Some(known),
+            rests: 0,
         }),
         Err(_) => GoesOn::Ends(W::no_memory()),
     }
@@ -143,18 +153,27 @@ fn after_turn<W: Trade, G: Gate>(
         Ok(Turned::Goes(pid)) => GoesOn::Seeks(Seeks {
             after: pid,
             known: None,
+            rests: 0,
         }),
+        Ok(Turned::Rests) => GoesOn::Rests,
         Ok(Turned::Wants(pid, asked)) => evaluate_asked::<W, G>(alloc, gate, worker, pid, asked),
         Ok(Turned::Ends(stop)) => GoesOn::Ends(stop),
         Err(_) => GoesOn::Ends(W::no_memory()),
     }
 }
 
+// Rests, the longer the more often the worker has rested: from 16 microseconds up to some two milliseconds.
+fn rest<R: Wait>(rt: &R, rests: u32) {
+    let doublings = rests.min(DOUBLINGS);
+    Parker::new().park_timeout(rt, Duration::from_micros(SHORTEST_REST << doublings));
+}
+
 /// One worker's part (docs/MACHINE.md, "Workers"): it takes turns with its pass, and fires ready processes, 256 in a
 /// turn at most, until it finds an end or memory is wanting. It starts to look for its next process where it fired
-/// last, and at its own number before that. Terms are evaluated after the turn was given back and the gate was called;
-/// in its next turn the worker first fires the first process that is ready from there on, and uses the outcome only
-/// where that process stands at this instruction with these values. Nothing says when the turns come.
+/// last, and at its own number before that. It passes by a process whose terms another worker evaluates just now, and
+/// rests for a while where it finds no other one. Terms are evaluated after the turn was given back and the gate was
+/// called; in its next turn the worker first fires the first process that is ready from there on, and uses the outcome
+/// only where that process stands at this instruction with these values. Nothing says when the turns come.
 pub fn work<W: Trade, G: Gate, R: Wait>(
     rt: &R,
     alloc: Global,
@@ -173,12 +192,25 @@ pub fn work<W: Trade, G: Gate, R: Wait>(
     let mut seeks = Seeks {
         after: number,
         known: None,
+        rests: 0,
     };
     'turns: for _ in rt.forever() {
+        let rests = seeks.rests;
         let Took { pass: same, turned } = take_one(rt, alloc, floor, pass, seeks);
         pass = same;
         match after_turn::<W, G>(alloc, gate, number, turned) {
-            GoesOn::Seeks(next) => seeks = next,
+            GoesOn::Seeks(next) => {
+                seeks = next;
+                seeks.rests = rests.min(DOUBLINGS).saturating_sub(1);
+            }
+            GoesOn::Rests => {
+                rest(rt, rests);
+                seeks = Seeks {
+                    after: number,
+                    known: None,
+                    rests: rests.saturating_add(1),
+                };
+            }
             GoesOn::Ends(end) => return Worked { pass, end },
         }
     }

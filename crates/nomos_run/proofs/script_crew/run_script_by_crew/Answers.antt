@@ -7,7 +7,7 @@ use Rattle.std.proofs.Common.{◌∙◌, [], ap, subst, sym}
 use Rattle.nomos_legal.specs.Ledger.{LedgerState, empty_ledger}
 use Rattle.nomos_legal.specs.StandsFor.{StandsNamed}
 use Rattle.nomos_run.proofs.CarriedLaws.{given-report, given-text}
-use Rattle.nomos_run.proofs.CarryLemmas.{gone-begun, ledger-standing, none-so_far, run-so_far}
+use Rattle.nomos_run.proofs.CarryLemmas.{gone-begun, last-report, ledger-standing, none-so_far, run-so_far}
 use Rattle.nomos_run.proofs.CourseLemmas.{course-run}
 use Rattle.nomos_run.proofs.Sending.{asked_sends, course_sends}
 use Rattle.nomos_run.specs.mirror.Courses.{opening}
@@ -20,6 +20,12 @@ returns-in_default-clause-runs g c =
     run-so_far c.end_at_once.result
     (none-so_far c.args.accepted.now empty_ledger c.args.script.now c.args.runner.now.orders c.requires.limit)
     c.end_at_once.ensures.journal c.end_at_once.ensures.none
+
+pub returns-in_default-new-clause-runs : goal.returns-in_default-new-clause-runs
+returns-in_default-new-clause-runs g c =
+    run-so_far c.end_at_once-in_default-new.result
+    (none-so_far c.args.accepted.now empty_ledger c.args.script.now c.args.runner.now.orders c.requires.limit)
+    c.end_at_once-in_default-new.ensures.journal c.end_at_once-in_default-new.ensures.none
 
 pub new-course-requires-clause-standing : goal.new-course-requires-clause-standing
 new-course-requires-clause-standing g c =
@@ -46,11 +52,15 @@ pub run_course-course-requires-send-C-Asked : goal.run_course-course-requires-se
 run_course-course-requires-send-C-Asked g c κs within =
     param_send 3 _ (arg_send _ no _ (asked_sends (record { mir = named 5; lft = κs.1.1.1.1.1.0 })))
 
+pub end-requires : goal.end-requires
+end-requires g c = last-report _ _ _ _ _ _ c.into_last-way.result.1 c.into_last-way.ensures.ok
+
 pub returns-clause-runs : goal.returns-clause-runs
 returns-clause-runs g c =
     let a = c.args.accepted.now in
     course-run c.run_course-course.result c.into_last-way.result.0.walk c.end.result c.into_last-way.result.1
-    (c.run_course-course.ensures ∙ ap opening c.new-course.ensures) (c.as_slice-items.ensures ∙ c.items.ensures.items)
+    (c.run_course-course.ensures ∙ ap opening (c.in-Ok-new.ensures.ok ∙ c.new-course.ensures))
+    (c.as_slice-items.ensures ∙ c.items.ensures.items)
     c.program-program.ensures.accepted
     (subst (λ (l : LedgerState). StandsNamed a l) c.empty-from.ensures.empty
     (ledger-standing (c.empty-from.ensures.stands a) c.know_ledger.ensures))

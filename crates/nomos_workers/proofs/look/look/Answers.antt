@@ -1,5 +1,6 @@
 use Rattle.std.proofs.Common.{◌≡◌, ◌∙◌, ◌<◌, ◌≤◌, length, subst, sym, arith, ⊎_elim}
 use Rattle.std.proofs.lemmas.Bool.{cases_lt}
+use Rattle.nomos_deeds.specs.Acting.{HasNumbers}
 use Rattle.nomos_legal.specs.World.{WorldState}
 use Rattle.nomos_workers.specs.Shops.{IsShop, shop_of}
 use Rattle.nomos_workers.proofs.ShopLemmas.{shop-numbers}
@@ -19,4 +20,5 @@ fire-requires-clause-numbers g c =
     (λ (full : c.args.limit ≤ length w.firings). absurd (c.in_default.ensures.1 (omega (arith, full, shop.within))))
     (cases_lt (length w.firings) c.args.limit)
     in
-    shop-numbers (shop_of a w c.args.limit) shop c.program-program.ensures.accepted room
+    subst (λ (v : WorldState). HasNumbers v.state) (sym c.chosen_one.ensures.world)
+    (shop-numbers (shop_of a w c.args.limit) shop c.program-program.ensures.accepted room)

@@ -12,6 +12,11 @@ returns-in-Goes-clause-history g c =
     rw (← c.self.view_is) (adds-behind c.args.pass c.self.inside.trail.fired.items
     (phase_firings c.self.inside.phase) (phase_firings c.look_under.new.phase) c.look_under.ensures.history)
 
+pub returns-in-Rests-clause-history : goal.returns-in-Rests-clause-history
+returns-in-Rests-clause-history g c =
+    rw (← c.self.view_is) (adds-behind c.args.pass c.self.inside.trail.fired.items
+    (phase_firings c.self.inside.phase) (phase_firings c.look_under.new.phase) c.look_under.ensures.history)
+
 pub returns-in-Wants-clause-history : goal.returns-in-Wants-clause-history
 returns-in-Wants-clause-history g c =
     rw (← c.self.view_is) (adds-behind c.args.pass c.self.inside.trail.fired.items
