@@ -1,5 +1,5 @@
 -- A process comes to an indexed state: room is made for its channels, they are bound, and it comes with its rows.
-use Rattle.std.proofs.Common.{◌≡◌, ◌-◌, ◌∙◌, ◌++◌, ◌∷◌, ℕ, Bool, List, [], IsSome, Option, Some, refl, sym, ap, subst}
+use Rattle.std.proofs.Common.{◌≡◌, ◌-◌, ◌∙◌, ◌++◌, ◌∷◌, ℕ, Bool, List, [], drop, IsSome, Option, Some, refl, sym, ap, subst}
 use Rattle.std.specs.Option.{option_map}
 use Rattle.nomos_ir.specs.Bindings.{bindings_of, bound_to}
 use Rattle.nomos_ir.specs.Value.{Value}
@@ -16,20 +16,23 @@ use Rattle.nomos_slots.specs.ChannelTables.{HaveSameNames}
 use Rattle.nomos_slots.specs.declared.numbered.Slot.{Slot}
 use Rattle.nomos_index.specs.ObjectsCome.{ObjectComes, name_with}
 use Rattle.nomos_index.specs.Indexed.{HasRoom, IsIndexed, held_marked, held_now, state_of}
-use Rattle.nomos_index.specs.Objects.{AscendsIf, channels_of, kept_of, process_held}
+use Rattle.nomos_index.specs.Objects.{AscendsIf, FitsRows, IsPotentialIf, channels_of, kept_of, process_held}
 use Rattle.nomos_index.specs.Spanning.{HasVariable}
 use Rattle.nomos_index.specs.declared.inside.Columns.{Columns}
 use Rattle.nomos_index.specs.declared.inside.Inside.TheInside.{Inside}
 use Rattle.nomos_index.specs.declared.kept.Kept.{Kept}
 use Rattle.nomos_index.specs.declared.kept.Kept.TheVariants as kept
+use Rattle.nomos_index.specs.declared.kept.KeptLists.{KeptLists}
 use Rattle.nomos_index.specs.declared.kept.KeptProcess.{KeptProcess}
 use Rattle.nomos_index.specs.declared.span.Span.{Span}
 use Rattle.nomos_index.proofs.AgainLemmas.{marks-again}
 use Rattle.nomos_index.proofs.ComingLemmas.{come-indexed, coming-state, coming_after, drawn_next, next-unnamed}
 use Rattle.nomos_index.proofs.PairLemmas.{name-other, name-own}
+use Rattle.nomos_index.proofs.PotentialLemmas.{none-gone}
 use Rattle.nomos_index.proofs.RebindLemmas.{channels-of_pairs}
 
 module _ (s : Inside) (is : IsIndexed s) (born : Newborn) (k : KeptProcess) (span : Option Span) (ascends : Bool)
+    (kept_lists : KeptLists)
     (objects : Marking (Slot Kept)) (values : Shelving (VarId × Value)) (its_lists : Shelving (VarId × PotentialList))
     (reserved after : Marking Cell)
     (names : (p w : ℕ) → name_in reserved.now p w ≡ name_in s.contents.channels.now p w)
@@ -38,13 +41,14 @@ module _ (s : Inside) (is : IsIndexed s) (born : Newborn) (k : KeptProcess) (spa
     (marked : HaveSameNames s.contents.channels.marked reserved.marked) (again : after.marked ≡ reserved.marked)
     (o : objects.marked ≡ s.contents.objects.marked) (v : values.marked ≡ s.contents.values.marked)
     (l : its_lists.marked ≡ s.contents.lists.marked) (next : born.fields.pid ≡ s.contents.numbers.next_object)
-    (fields : k ≡ kept_of born.fields span ascends)
+    (fields : k ≡ kept_of born.fields span ascends kept_lists)
     (slots : objects.now
     ≡ s.contents.objects.now ++ (record { number = born.fields.pid; item = Some (kept.Process k) }) ∷ [])
     (rows : values.now ≡ s.contents.values.now ++ born.values.items ∷ [])
     (list_rows : its_lists.now ≡ s.contents.lists.now ++ born.lists.items ∷ [])
     (spans : (w : ℕ) → IsSome (bound_to w born.channels.items) → HasVariable span w)
-    (order : AscendsIf ascends born.values.items) where
+    (order : AscendsIf ascends born.values.items) (none : kept_lists.gone ≡ 0)
+    (known : IsPotentialIf kept_lists.potential born.lists.items) where
   pub its_marks : HaveSameNames s.contents.channels.marked after.marked
   its_marks = subst (HaveSameNames s.contents.channels.marked) (sym again) marked
 
@@ -67,7 +71,8 @@ module _ (s : Inside) (is : IsIndexed s) (born : Newborn) (k : KeptProcess) (spa
   born-comes = record {
     is_next = next;
     fits =
-        subst (λ (n : KeptProcess). AscendsIf n.ascends born.values.items) (sym fields) order;
+        subst (λ (n : KeptProcess). FitsRows (Some (kept.Process n)) born.values.items born.lists.items) (sym fields)
+        (order, none-gone kept_lists.gone kept_lists.potential born.lists.items none known);
     its_own = λ w some.
         subst (λ (n : KeptProcess). HasVariable n.span w) (sym fields)
         (spans w (subst (λ (o : Option ℕ). IsSome o) (named w) some));
@@ -104,8 +109,11 @@ module _ (s : Inside) (is : IsIndexed s) (born : Newborn) (k : KeptProcess) (spa
       ∙ ap (λ (n : KeptProcess). with_object (object.Process (held n (channels_of after.now born.fields.pid)))
       (state_of (held_now s.contents))) fields
       ∙ ap (λ (channels : List (VarId × ℕ)). with_object
-      (object.Process (held (kept_of born.fields span ascends) channels))
+      (object.Process (held (kept_of born.fields span ascends kept_lists) channels))
       (state_of (held_now s.contents))) its_channels
+      ∙ ap (λ (n : ℕ). with_object
+      (object.Process (record (process_born born) { lists = drop n born.lists.items }))
+      (state_of (held_now s.contents))) none
 
   pub born-marks : option_map state_of (held_marked born_after s.marked)
       ≡ option_map state_of (held_marked s.contents s.marked)

@@ -16,7 +16,7 @@ use Rattle.nomos_slots.specs.declared.numbered.Slot.{Slot}
 use Rattle.nomos_slots.proofs.NumberLaws.{put_at-own}
 use Rattle.nomos_index.specs.Indexed.{IsIndexed, held_now, state_of}
 use Rattle.nomos_index.specs.Looked.{ProcessIsAt, lists_at, values_at}
-use Rattle.nomos_index.specs.Objects.{AscendsIf, ListRow, ValueRow, channels_of, process_held}
+use Rattle.nomos_index.specs.Objects.{AscendsIf, FitsLists, FitsRows, ListRow, ValueRow, channels_of, process_held}
 use Rattle.nomos_index.specs.Placing.{ProcessComes}
 use Rattle.nomos_index.specs.Spanning.{HasVariable}
 use Rattle.nomos_index.specs.declared.inside.Columns.{Columns}
@@ -26,7 +26,7 @@ use Rattle.nomos_index.specs.declared.kept.Kept.TheVariants as kept
 use Rattle.nomos_index.specs.declared.kept.KeptProcess.{KeptProcess}
 use Rattle.nomos_index.specs.declared.span.Span.{Span}
 use Rattle.nomos_index.proofs.AgainLemmas.{indexed-again}
-use Rattle.nomos_index.proofs.ProcessLemmas.{ascends-kept, process-becomes, process-holding, slot-kept, spans-kept}
+use Rattle.nomos_index.proofs.ProcessLemmas.{process-becomes, process-holding, rows-kept, slot-kept, spans-kept}
 use Rattle.nomos_index.proofs.TogetherLemmas.{same-names}
 
 module _ (s : Inside) (is : IsIndexed s) (pid place : ℕ) (k : KeptProcess)
@@ -55,15 +55,16 @@ module _ (s : Inside) (is : IsIndexed s) (pid place : ℕ) (k : KeptProcess)
   own_spans : (w : ℕ) → IsSome (name_in s.contents.channels.now pid w) → HasVariable k.span w
   own_spans = spans-kept (held_now s.contents) is.now place pid (kept.Process k) at.at
 
-  -- its values ascend, where that is kept of it
-  own_order : AscendsIf k.ascends values_row
-  own_order = ascends-kept (held_now s.contents) is.now place pid k at.at
+  -- its rows are as it is kept of them
+  pub own_rows : FitsRows (Some (kept.Process k)) values_row lists_row
+  own_rows = rows-kept (held_now s.contents) is.now place pid k at.at
 
   -- ---- other plain fields
 
   module _ (objects : Marking (Slot Kept)) (next : KeptProcess)
       (now : objects.now ≡ put_at s.contents.objects.now place (Some (kept.Process next))) (span : next.span ≡ k.span)
-      (order : next.ascends ≡ k.ascends) (marked : objects.marked ≡ s.contents.objects.marked)
+      (order : next.ascends ≡ k.ascends) (gone : next.gone ≡ k.gone) (potential : next.potential ≡ k.potential)
+      (marked : objects.marked ≡ s.contents.objects.marked)
       (room : s.contents.objects.room ≤ objects.room) where
     abbrev pub with_objects : Columns
     with_objects = record s.contents { objects = objects }
@@ -84,8 +85,12 @@ module _ (s : Inside) (is : IsIndexed s) (pid place : ℕ) (k : KeptProcess)
     fields_span : (w : ℕ) → IsSome (name_in s.contents.channels.now pid w) → HasVariable next.span w
     fields_span w some = subst (λ o. HasVariable o w) (sym span) (own_spans w some)
 
-    fields_order : AscendsIf next.ascends values_row
-    fields_order = subst (λ b. AscendsIf b values_row) (sym order) own_order
+    fields_fit : FitsRows (Some (kept.Process next)) values_row lists_row
+    fields_fit = (
+      subst (λ b. AscendsIf b values_row) (sym order) own_rows.0,
+      subst (λ (n : ℕ). FitsLists n next.potential lists_row) (sym gone)
+          (subst (λ (o : Option ℕ). FitsLists k.gone o lists_row) (sym potential) own_rows.1),
+    )
 
     pub fields-indexed : IsIndexed (record s { contents = with_objects })
     fields-indexed =
@@ -93,7 +98,7 @@ module _ (s : Inside) (is : IsIndexed s) (pid place : ℕ) (k : KeptProcess)
         refl
         same_cells s.room is
         (process-holding (held_now s.contents) (held_now with_objects) is.now pid place k next values_row lists_row at
-        fields-come fields_span fields_order)
+        fields-come fields_span fields_fit)
         (record {
           objects = omega (arith, room, is.has_room.objects);
           values = is.has_room.values;
@@ -108,7 +113,7 @@ module _ (s : Inside) (is : IsIndexed s) (pid place : ℕ) (k : KeptProcess)
         → Becomes (state_of (held_now s.contents)) pid f (state_of (held_now with_objects))
     fields-become f same =
         process-becomes (held_now s.contents) (held_now with_objects) is.now pid place k next values_row lists_row at
-        fields-come fields_span fields_order f same
+        fields-come fields_span fields_fit f same
 
   -- ---- other channels, in another span
 
@@ -143,7 +148,7 @@ module _ (s : Inside) (is : IsIndexed s) (pid place : ℕ) (k : KeptProcess)
         indexed-again s objects s.contents.values s.contents.lists channels s.contents.numbers also refl refl marked
         room is
         (process-holding (held_now s.contents) (held_now with_cells) is.now pid place k spanning values_row lists_row at
-        channels-come spans own_order)
+        channels-come spans own_rows)
         (record {
           objects = omega (arith, less, as_much, is.has_room.objects);
           values = omega (arith, less, is.has_room.values);
@@ -158,7 +163,7 @@ module _ (s : Inside) (is : IsIndexed s) (pid place : ℕ) (k : KeptProcess)
         → Becomes (state_of (held_now s.contents)) pid f (state_of (held_now with_cells))
     channels-become b f bound same =
         process-becomes (held_now s.contents) (held_now with_cells) is.now pid place k spanning values_row lists_row at
-        channels-come spans own_order f
+        channels-come spans own_rows f
         (same
         ∙ ap (λ (c : List (VarId × ℕ)). record (process_held s.contents.channels.now pid values_row lists_row k) {
           channels = c;
@@ -186,23 +191,25 @@ module _ (s : Inside) (is : IsIndexed s) (pid place : ℕ) (k : KeptProcess)
         channels-become s.contents.objects k.span channels room same_slots refl (omega arith) others
         (λ w some. own_spans w (fewer w some)) marked less has
 
-  -- ---- other values, of which it is kept whether they ascend, and other lists
+  -- ---- other values and lists, of which it is kept whether they ascend, how many are gone, and what the others carry
 
   module _ (objects : Marking (Slot Kept)) (values : Shelving (VarId × Value))
       (its_lists : Shelving (VarId × PotentialList))
-      (ascends : Bool) (row : ValueRow) (list_row : ListRow) (room : ℕ)
-      (now : objects.now ≡ put_at s.contents.objects.now place (Some (kept.Process (record k { ascends = ascends }))))
+      (ascends : Bool) (gone : ℕ) (potential : Option ℕ) (row : ValueRow) (list_row : ListRow) (room : ℕ)
+      (now : objects.now ≡ put_at s.contents.objects.now place
+      (Some (kept.Process (record k { ascends = ascends; gone = gone; potential = potential }))))
       (rows : values.now ≡ slice_set s.contents.values.now place row)
       (list_rows : its_lists.now ≡ slice_set s.contents.lists.now place list_row)
-      (order : AscendsIf ascends row) (also : objects.marked ≡ s.contents.objects.marked)
-      (marked : values.marked ≡ s.contents.values.marked) (its_marked : its_lists.marked ≡ s.contents.lists.marked)
+      (order : AscendsIf ascends row) (fits : FitsLists gone potential list_row)
+      (also : objects.marked ≡ s.contents.objects.marked) (marked : values.marked ≡ s.contents.values.marked)
+      (its_marked : its_lists.marked ≡ s.contents.lists.marked)
       (less : room ≤ s.room) (as_much : s.contents.objects.room ≤ objects.room) (has : room ≤ values.room)
       (has_lists : room ≤ its_lists.room) where
     abbrev pub with_rows : Columns
     with_rows = record s.contents { objects = objects; values = values; lists = its_lists }
 
     abbrev ordered : KeptProcess
-    ordered = record k { ascends = ascends }
+    ordered = record k { ascends = ascends; gone = gone; potential = potential }
 
     rows-come : ProcessComes (held_now s.contents) (held_now with_rows) pid place ordered row list_row
     rows-come = record {
@@ -223,7 +230,7 @@ module _ (s : Inside) (is : IsIndexed s) (pid place : ℕ) (k : KeptProcess)
         same_cells
         room is
         (process-holding (held_now s.contents) (held_now with_rows) is.now pid place k ordered row list_row at rows-come
-        own_spans order)
+        own_spans (order, fits))
         (record {
           objects = omega (arith, less, as_much, is.has_room.objects);
           values = has;
@@ -234,11 +241,11 @@ module _ (s : Inside) (is : IsIndexed s) (pid place : ℕ) (k : KeptProcess)
 
     pub rows-become : (f : Process → Process)
         → f (process_held s.contents.channels.now pid values_row lists_row k)
-        ≡ process_held s.contents.channels.now pid row list_row k
+        ≡ process_held s.contents.channels.now pid row list_row (record k { gone = gone })
         → Becomes (state_of (held_now s.contents)) pid f (state_of (held_now with_rows))
     rows-become f same =
         process-becomes (held_now s.contents) (held_now with_rows) is.now pid place k ordered row list_row at rows-come
-        own_spans order f same
+        own_spans (order, fits) f same
 
   -- the values alone, where they ascend if they did
 
@@ -248,35 +255,42 @@ module _ (s : Inside) (is : IsIndexed s) (pid place : ℕ) (k : KeptProcess)
       (less : s.contents.values.room ≤ values.room + 1) where
     pub values-indexed : IsIndexed (record s { contents = record s.contents { values = values }; room = s.room - 1 })
     values-indexed =
-        rows-indexed s.contents.objects values s.contents.lists k.ascends row lists_row (s.room - 1) same_slots now
-        same_lists order refl marked refl (omega arith) (omega arith) (omega (arith, less, is.has_room.values))
-        (omega (arith, is.has_room.its_lists))
+        rows-indexed s.contents.objects values s.contents.lists k.ascends k.gone k.potential row lists_row (s.room - 1)
+        same_slots now same_lists order own_rows.1 refl marked refl (omega arith) (omega arith)
+        (omega (arith, less, is.has_room.values)) (omega (arith, is.has_room.its_lists))
 
     pub values-become : (f : Process → Process)
         → f (process_held s.contents.channels.now pid values_row lists_row k)
         ≡ process_held s.contents.channels.now pid row lists_row k
         → Becomes (state_of (held_now s.contents)) pid f (state_of (held_now (record s.contents { values = values })))
     values-become =
-        rows-become s.contents.objects values s.contents.lists k.ascends row lists_row (s.room - 1) same_slots now
-        same_lists order refl marked refl (omega arith) (omega arith) (omega (arith, less, is.has_room.values))
-        (omega (arith, is.has_room.its_lists))
+        rows-become s.contents.objects values s.contents.lists k.ascends k.gone k.potential row lists_row (s.room - 1)
+        same_slots now same_lists order own_rows.1 refl marked refl (omega arith) (omega arith)
+        (omega (arith, less, is.has_room.values)) (omega (arith, is.has_room.its_lists))
 
   -- the lists alone
 
-  module _ (its_lists : Shelving (VarId × PotentialList)) (row : ListRow)
-      (now : its_lists.now ≡ slice_set s.contents.lists.now place row)
-      (marked : its_lists.marked ≡ s.contents.lists.marked) (less : s.contents.lists.room ≤ its_lists.room + 1) where
-    pub lists-indexed : IsIndexed (record s { contents = record s.contents { lists = its_lists }; room = s.room - 1 })
+  module _ (objects : Marking (Slot Kept)) (its_lists : Shelving (VarId × PotentialList)) (gone : ℕ)
+      (potential : Option ℕ) (row : ListRow)
+      (now : objects.now ≡ put_at s.contents.objects.now place
+      (Some (kept.Process (record k { gone = gone; potential = potential }))))
+      (rows : its_lists.now ≡ slice_set s.contents.lists.now place row) (fits : FitsLists gone potential row)
+      (also : objects.marked ≡ s.contents.objects.marked) (marked : its_lists.marked ≡ s.contents.lists.marked)
+      (as_much : s.contents.objects.room ≤ objects.room) (less : s.contents.lists.room ≤ its_lists.room + 1) where
+    abbrev pub with_lists : Columns
+    with_lists = record s.contents { objects = objects; lists = its_lists }
+
+    pub lists-indexed : IsIndexed (record s { contents = with_lists; room = s.room - 1 })
     lists-indexed =
-        rows-indexed s.contents.objects s.contents.values its_lists k.ascends values_row row (s.room - 1) same_slots
-        same_values now own_order refl refl marked (omega arith) (omega arith) (omega (arith, is.has_room.values))
+        rows-indexed objects s.contents.values its_lists k.ascends gone potential values_row row (s.room - 1) now
+        same_values rows own_rows.0 fits also refl marked (omega arith) as_much (omega (arith, is.has_room.values))
         (omega (arith, less, is.has_room.its_lists))
 
     pub lists-become : (f : Process → Process)
         → f (process_held s.contents.channels.now pid values_row lists_row k)
-        ≡ process_held s.contents.channels.now pid values_row row k
-        → Becomes (state_of (held_now s.contents)) pid f (state_of (held_now (record s.contents { lists = its_lists })))
+        ≡ process_held s.contents.channels.now pid values_row row (record k { gone = gone })
+        → Becomes (state_of (held_now s.contents)) pid f (state_of (held_now with_lists))
     lists-become =
-        rows-become s.contents.objects s.contents.values its_lists k.ascends values_row row (s.room - 1) same_slots
-        same_values now own_order refl refl marked (omega arith) (omega arith) (omega (arith, is.has_room.values))
+        rows-become objects s.contents.values its_lists k.ascends gone potential values_row row (s.room - 1) now
+        same_values rows own_rows.0 fits also refl marked (omega arith) as_much (omega (arith, is.has_room.values))
         (omega (arith, less, is.has_room.its_lists))

@@ -1,5 +1,5 @@
 -- The channels of a process bind a variable to the name that the cells have, wherever it is kept.
-use Rattle.std.proofs.Common.{◌≡◌, ◌∙◌, ℕ, ◌==◌, ◌&&◌, Bool, true, false, cond, List, [], ◌∷◌, ◌++◌, Option, Some, None, refl, sym, ap}
+use Rattle.std.proofs.Common.{◌≡◌, ◌∙◌, ℕ, ◌==◌, ◌&&◌, Bool, true, false, cond, List, [], ◌∷◌, ◌++◌, drop, Option, Some, None, refl, sym, ap}
 use Rattle.std.specs.Option.{option_map, option_to_list}
 use Rattle.nomos_ir.specs.Bindings.{bound_to}
 use Rattle.nomos_ir.specs.declared.ids.VarId.{VarId}
@@ -48,7 +48,7 @@ object-same before after n values its_lists (kept.Process k) same =
       mode = k.mode;
       code = k.code;
       values = values;
-      lists = its_lists;
+      lists = drop k.gone its_lists;
       channels = channels;
       offers = k.offers;
       base = k.base;

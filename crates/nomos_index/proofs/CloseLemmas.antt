@@ -11,7 +11,7 @@ use Rattle.nomos_slots.specs.declared.numbered.Slot.{Slot}
 use Rattle.nomos_slots.proofs.GapLaws.{all-closed, ascending-close, filled, found-close}
 use Rattle.nomos_index.specs.Closing.{AreBeside}
 use Rattle.nomos_index.specs.Indexed.{Holding, IsHolding, state_of}
-use Rattle.nomos_index.specs.Objects.{FitRows, FitsRow, ListRow, ValueRow, object_of, objects_of, types_of}
+use Rattle.nomos_index.specs.Objects.{FitRows, FitsRows, ListRow, ValueRow, object_of, objects_of, types_of}
 use Rattle.nomos_index.specs.Spanning.{Spans}
 use Rattle.nomos_index.specs.declared.kept.Kept.{Kept}
 
@@ -97,41 +97,47 @@ module _ (cells : List Cell) where
 
 -- ---- rows that fit what is kept
 
-fit-head : (s : Slot Kept) (slots : List (Slot Kept)) (r : ValueRow) (rows : List ValueRow)
-    → FitRows (s ∷ slots) (r ∷ rows) → FitsRow s.item r
-fit-head s slots r rows all = all 0 s refl
+module _ (s : Slot Kept) (slots : List (Slot Kept)) (v : ValueRow) (vs : List ValueRow) (l : ListRow)
+    (ls : List ListRow) where
+  fit-head : FitRows (s ∷ slots) (v ∷ vs) (l ∷ ls) → FitsRows s.item v l
+  fit-head all = all 0 s refl
 
-fit-tail : (s : Slot Kept) (slots : List (Slot Kept)) (r : ValueRow) (rows : List ValueRow)
-    → FitRows (s ∷ slots) (r ∷ rows) → FitRows slots rows
-fit-tail s slots r rows all place slot at = all (suc place) slot at
+  fit-tail : FitRows (s ∷ slots) (v ∷ vs) (l ∷ ls) → FitRows slots vs ls
+  fit-tail all place slot at = all (suc place) slot at
 
-fit-cons : (s : Slot Kept) (slots : List (Slot Kept)) (r : ValueRow) (rows : List ValueRow)
-    → FitsRow s.item r → FitRows slots rows → FitRows (s ∷ slots) (r ∷ rows)
-fit-cons s slots r rows own all zero slot at =
-    subst (λ (x : Slot Kept). FitsRow x.item r) (same_Some s slot at) own
-fit-cons s slots r rows own all (suc place) slot at = all place slot at
+  fit-cons : FitsRows s.item v l → FitRows slots vs ls → FitRows (s ∷ slots) (v ∷ vs) (l ∷ ls)
+  fit-cons own all zero slot at = subst (λ (x : Slot Kept). FitsRows x.item v l) (same_Some s slot at) own
+  fit-cons own all (suc place) slot at = all place slot at
 
-fit-filled : (slots : List (Slot Kept)) (rows : List ValueRow) → length rows ≡ length slots → FitRows slots rows
-    → FitRows (filled slots) (close_rows zero slots rows)
-fit-filled [] rows long all = λ place slot at. absurd (none-some slot at)
-fit-filled (s ∷ slots) [] long all = absurd (omega arith)
-fit-filled (s ∷ slots) (r ∷ rows) long all =
-    at (is_some s.item) (fit-filled slots rows (omega arith) (fit-tail s slots r rows all))
+fit-filled : (slots : List (Slot Kept)) (vs : List ValueRow) (ls : List ListRow) → length vs ≡ length slots
+    → length ls ≡ length slots → FitRows slots vs ls
+    → FitRows (filled slots) (close_rows zero slots vs) (close_rows zero slots ls)
+fit-filled [] vs ls long also all = λ place slot at. absurd (none-some slot at)
+fit-filled (s ∷ slots) [] ls long also all = absurd (omega arith)
+fit-filled (s ∷ slots) (v ∷ vs) [] long also all = absurd (omega arith)
+fit-filled (s ∷ slots) (v ∷ vs) (l ∷ ls) long also all =
+    at (is_some s.item) (fit-filled slots vs ls (omega arith) (omega arith) (fit-tail s slots v vs l ls all))
   where
-    at : (b : Bool) → FitRows (filled slots) (close_rows zero slots rows)
+    at : (b : Bool) → FitRows (filled slots) (close_rows zero slots vs) (close_rows zero slots ls)
         → FitRows (cond b (s ∷ filled slots) (filled slots))
-        (cond b (r ∷ close_rows zero slots rows) (close_rows zero slots rows))
-    at true rest = fit-cons s (filled slots) r (close_rows zero slots rows) (fit-head s slots r rows all) rest
+        (cond b (v ∷ close_rows zero slots vs) (close_rows zero slots vs))
+        (cond b (l ∷ close_rows zero slots ls) (close_rows zero slots ls))
+    at true rest =
+        fit-cons s (filled slots) v (close_rows zero slots vs) l (close_rows zero slots ls)
+        (fit-head s slots v vs l ls all) rest
     at false rest = rest
 
-pub fit-closed : (from : ℕ) (slots : List (Slot Kept)) (rows : List ValueRow) → length rows ≡ length slots
-    → FitRows slots rows → FitRows (close_gaps from slots) (close_rows from slots rows)
-fit-closed zero slots rows long all = fit-filled slots rows long all
-fit-closed (suc from) [] rows long all = λ place slot at. absurd (none-some slot at)
-fit-closed (suc from) (s ∷ slots) [] long all = absurd (omega arith)
-fit-closed (suc from) (s ∷ slots) (r ∷ rows) long all =
-    fit-cons s (close_gaps from slots) r (close_rows from slots rows) (fit-head s slots r rows all)
-    (fit-closed from slots rows (omega arith) (fit-tail s slots r rows all))
+pub fit-closed : (from : ℕ) (slots : List (Slot Kept)) (vs : List ValueRow) (ls : List ListRow)
+    → length vs ≡ length slots → length ls ≡ length slots → FitRows slots vs ls
+    → FitRows (close_gaps from slots) (close_rows from slots vs) (close_rows from slots ls)
+fit-closed zero slots vs ls long also all = fit-filled slots vs ls long also all
+fit-closed (suc from) [] vs ls long also all = λ place slot at. absurd (none-some slot at)
+fit-closed (suc from) (s ∷ slots) [] ls long also all = absurd (omega arith)
+fit-closed (suc from) (s ∷ slots) (v ∷ vs) [] long also all = absurd (omega arith)
+fit-closed (suc from) (s ∷ slots) (v ∷ vs) (l ∷ ls) long also all =
+    fit-cons s (close_gaps from slots) v (close_rows from slots vs) l (close_rows from slots ls)
+    (fit-head s slots v vs l ls all)
+    (fit-closed from slots vs ls (omega arith) (omega arith) (fit-tail s slots v vs l ls all))
 
 -- ---- the types of names
 
@@ -177,7 +183,7 @@ module _ (h : Holding) (from : ℕ) where
     below = all-closed (λ n. n < h.drawn.next_object) from h.slots is.below;
     names_ascending = is.names_ascending;
     names_below = is.names_below;
-    fit = fit-closed from h.slots h.value_rows is.value_rows is.fit;
+    fit = fit-closed from h.slots h.value_rows h.list_rows is.value_rows is.list_rows is.fit;
     held = λ p v some. subst (λ o. Spans o v) (sym (found-close from h.slots p is.ascending)) (is.held p v some);
   }
 

@@ -22,7 +22,7 @@ use Rattle.nomos_slots.specs.declared.numbered.Slot.{Slot}
 use Rattle.nomos_slots.proofs.NumberLaws.{ascending-push, found-push, found-push_other}
 use Rattle.nomos_index.specs.ObjectsCome.{ObjectComes}
 use Rattle.nomos_index.specs.Indexed.{Holding, HasRoom, IsHolding, IsIndexed, held_now, state_of}
-use Rattle.nomos_index.specs.Objects.{FitRows, AreHeld, FitsRow, ListRow, ValueRow, message_held, object_of, objects_of}
+use Rattle.nomos_index.specs.Objects.{FitRows, AreHeld, FitsRows, ListRow, ValueRow, message_held, object_of, objects_of}
 use Rattle.nomos_index.specs.Spanning.{Spans}
 use Rattle.nomos_index.specs.declared.inside.Columns.{Columns}
 use Rattle.nomos_index.specs.declared.inside.Inside.TheInside.{Inside}
@@ -52,16 +52,19 @@ objects-append cells (s ∷ slots) (w ∷ vs) (m ∷ ls) n k v l long also =
     ap (λ os. first ++ os) (objects-append cells slots vs ls n k v l (omega arith) (omega arith))
     ∙ sym (append_assoc first (objects_of cells slots vs ls) (object_of cells n v l k ∷ []))
 
-fit-push : (slots : List (Slot Kept)) (rows : List ValueRow) (s : Slot Kept) (v : ValueRow)
-    → length rows ≡ length slots → FitRows slots rows → FitsRow s.item v → FitRows (slots ++ s ∷ []) (rows ++ v ∷ [])
-fit-push [] [] s v long all own zero slot at =
-    subst (λ (x : Slot Kept). FitsRow x.item v) (same_Some s slot at) own
-fit-push [] [] s v long all own (suc place) slot at = absurd (none-some slot at)
-fit-push [] (r ∷ rows) s v long all own place slot at = absurd (omega arith)
-fit-push (e ∷ slots) [] s v long all own place slot at = absurd (omega arith)
-fit-push (e ∷ slots) (r ∷ rows) s v long all own zero slot at = all zero slot at
-fit-push (e ∷ slots) (r ∷ rows) s v long all own (suc place) slot at =
-    fit-push slots rows s v (omega arith) (λ p t h. all (suc p) t h) own place slot at
+fit-push : (slots : List (Slot Kept)) (vs : List ValueRow) (ls : List ListRow) (s : Slot Kept) (v : ValueRow)
+    (l : ListRow) → length vs ≡ length slots → length ls ≡ length slots → FitRows slots vs ls → FitsRows s.item v l
+    → FitRows (slots ++ s ∷ []) (vs ++ v ∷ []) (ls ++ l ∷ [])
+fit-push [] [] [] s v l long also all own zero slot at =
+    subst (λ (x : Slot Kept). FitsRows x.item v l) (same_Some s slot at) own
+fit-push [] [] [] s v l long also all own (suc place) slot at = absurd (none-some slot at)
+fit-push [] (w ∷ vs) ls s v l long also all own place slot at = absurd (omega arith)
+fit-push [] [] (m ∷ ls) s v l long also all own place slot at = absurd (omega arith)
+fit-push (e ∷ slots) [] ls s v l long also all own place slot at = absurd (omega arith)
+fit-push (e ∷ slots) (w ∷ vs) [] s v l long also all own place slot at = absurd (omega arith)
+fit-push (e ∷ slots) (w ∷ vs) (m ∷ ls) s v l long also all own zero slot at = all zero slot at
+fit-push (e ∷ slots) (w ∷ vs) (m ∷ ls) s v l long also all own (suc place) slot at =
+    fit-push slots vs ls s v l (omega arith) (omega arith) (λ p t h. all (suc p) t h) own place slot at
 
 numbers-push : (slots : List (Slot Kept)) (s : Slot Kept) → numbers (slots ++ s ∷ []) ≡ numbers slots ++ s.number ∷ []
 numbers-push [] s = refl
@@ -175,9 +178,12 @@ module _ (before after : Holding) (is : IsHolding before) (n : ℕ) (k : Kept) (
             subst (λ (d : Numbers). Below after.names d) (sym comes.drawn)
             (subst (λ (names : List (Slot TypeId)). Below names before.drawn) (sym comes.names) is.names_below);
         fit =
-            subst (λ (rows : List ValueRow). FitRows after.slots rows) (sym comes.value_rows)
-            (subst (λ (xs : List (Slot Kept)). FitRows xs (before.value_rows ++ v ∷ [])) (sym slots)
-            (fit-push before.slots before.value_rows slot v is.value_rows is.fit comes.fits));
+            subst (λ (ls : List ListRow). FitRows after.slots after.value_rows ls) (sym comes.list_rows)
+            (subst (λ (vs : List ValueRow). FitRows after.slots vs (before.list_rows ++ l ∷ [])) (sym comes.value_rows)
+            (subst (λ (xs : List (Slot Kept)). FitRows xs (before.value_rows ++ v ∷ []) (before.list_rows ++ l ∷ []))
+            (sym slots)
+            (fit-push before.slots before.value_rows before.list_rows slot v l is.value_rows is.list_rows is.fit
+            comes.fits)));
         held =
             subst (λ (xs : List (Slot Kept)). AreHeld xs after.cells) (sym slots) held-come;
       }

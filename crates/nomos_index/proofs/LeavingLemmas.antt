@@ -65,7 +65,7 @@ module _ (s : Inside) (is : IsIndexed s) (number place : ℕ) (k : Kept)
   gone : (w : ℕ) → name_in channels.now number w ≡ None
   gone w = names number w ∙ ap (λ b. cond b None (name_in s.contents.channels.now number w)) (eq-eqb number number refl)
 
-  can : CanPlace (held_now s.contents) place number k None [] channels.now
+  can : CanPlace (held_now s.contents) place number k None [] [] channels.now
   can = record {
     stood = slot-kept s.contents.objects.now place number k at.at;
     fits = tt;

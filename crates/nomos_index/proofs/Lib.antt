@@ -8,6 +8,7 @@ pub mod CopyLemmas
 pub mod DrawLemmas
 pub mod FoundLemmas
 pub mod LeavingLemmas
+pub mod LeftLemmas
 pub mod ListRowLemmas
 pub mod LookLemmas
 pub mod OnceLemmas

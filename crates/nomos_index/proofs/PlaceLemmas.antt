@@ -17,7 +17,7 @@ use Rattle.nomos_slots.specs.Numbers.{IsAscending, found, numbers, put_at}
 use Rattle.nomos_slots.specs.declared.numbered.Slot.{Slot}
 use Rattle.nomos_slots.proofs.NumberLaws.{found-put_at, found-put_at_other, get-put_at, get-put_at_other, length-put_at, numbers-put_at}
 use Rattle.nomos_index.specs.Indexed.{Holding, IsHolding, state_of}
-use Rattle.nomos_index.specs.Objects.{FitsRow, ListRow, ValueRow, object_of, objects_of}
+use Rattle.nomos_index.specs.Objects.{FitsRows, ListRow, ValueRow, object_of, objects_of}
 use Rattle.nomos_index.specs.Placing.{CanPlace, PlaceComes, with_place}
 use Rattle.nomos_index.specs.Spanning.{Spans}
 use Rattle.nomos_index.specs.declared.kept.Kept.{Kept}
@@ -106,7 +106,7 @@ module _ (before after : List Cell) (n : ℕ) (others : (p v : ℕ) → p ≢ n 
 -- ---- what is held
 
 module _ (h : Holding) (is : IsHolding h) (place n : ℕ) (k : Kept) (item : Option Kept) (v : ValueRow) (l : ListRow)
-    (cells : List Cell) (can : CanPlace h place n k item v cells) where
+    (cells : List Cell) (can : CanPlace h place n k item v l cells) where
   abbrev placed : Holding
   placed = with_place place item v l cells h
 
@@ -122,8 +122,17 @@ module _ (h : Holding) (is : IsHolding h) (place n : ℕ) (k : Kept) (item : Opt
   within : place < length h.value_rows
   within = omega (arith, is.value_rows, slice_get_within h.slots place _ can.stood)
 
+  within-lists : place < length h.list_rows
+  within-lists = omega (arith, is.list_rows, slice_get_within h.slots place _ can.stood)
+
+  -- the rows at a place, now and before
+  abbrev FitThere : ℕ → Option Kept → Type 0
+  FitThere other i =
+      FitsRows i (slice_index_or (set h.value_rows place v) other [])
+      (slice_index_or (set h.list_rows place l) other [])
+
   fit-placed : (other : ℕ) (slot : Slot Kept) → slice_get (put_at h.slots place item) other ≡ Some slot
-      → FitsRow slot.item (slice_index_or (set h.value_rows place v) other [])
+      → FitThere other slot.item
   fit-placed other slot at =
       elim (cases_eq other place) [
         | inl same ↦
@@ -133,11 +142,19 @@ module _ (h : Holding) (is : IsHolding h) (place n : ℕ) (k : Kept) (item : Opt
             let row : v ≡ slice_index_or (set h.value_rows place v) other [] =
             sym (ap (λ i. slice_index_or (set h.value_rows place v) i []) same ∙ get_or-set_same h.value_rows place v []
             within) in
-            subst (λ i. FitsRow i (slice_index_or (set h.value_rows place v) other [])) item_is
-            (subst (FitsRow item) row can.fits)
+            let list_row : l ≡ slice_index_or (set h.list_rows place l) other [] =
+            sym (ap (λ i. slice_index_or (set h.list_rows place l) i []) same ∙ get_or-set_same h.list_rows place l []
+            within-lists) in
+            subst (FitThere other) item_is
+            (subst (λ (ls : ListRow). FitsRows item (slice_index_or (set h.value_rows place v) other []) ls) list_row
+            (subst (λ (vs : ValueRow). FitsRows item vs l) row can.fits))
         | inr apart ↦
-            subst (FitsRow slot.item) (sym (get_or-set_other h.value_rows place other v [] apart))
-            (is.fit other slot (sym (get-put_at_other h.slots place other item apart) ∙ at))
+            let values = slice_index_or h.value_rows other [] in
+            let there = is.fit other slot (sym (get-put_at_other h.slots place other item apart) ∙ at) in
+            subst (λ (vs : ValueRow). FitsRows slot.item vs (slice_index_or (set h.list_rows place l) other []))
+            (sym (get_or-set_other h.value_rows place other v [] apart))
+            (subst (λ (ls : ListRow). FitsRows slot.item values ls)
+            (sym (get_or-set_other h.list_rows place other l [] apart)) there)
       ]
 
   held-placed : (p w : ℕ) → IsSome (name_in cells p w) → Spans (found (put_at h.slots place item) p) w
@@ -169,7 +186,7 @@ module _ (h : Holding) (is : IsHolding h) (place n : ℕ) (k : Kept) (item : Opt
 
 -- the same of what is held afterwards
 module _ (before after : Holding) (is : IsHolding before) (place n : ℕ) (k : Kept) (item : Option Kept) (v : ValueRow)
-    (l : ListRow) (can : CanPlace before place n k item v after.cells)
+    (l : ListRow) (can : CanPlace before place n k item v l after.cells)
     (comes : PlaceComes before after n place item v l) where
   after-is : with_place place item v l after.cells before ≡ after
   after-is =

@@ -12,7 +12,7 @@ use Rattle.nomos_slots.specs.declared.numbered.Slot.{Slot}
 use Rattle.nomos_slots.proofs.NumberLaws.{found-at}
 use Rattle.nomos_index.specs.Indexed.{Holding, IsHolding, state_of}
 use Rattle.nomos_index.specs.Looked.{ProcessIsAt, lists_at, values_at}
-use Rattle.nomos_index.specs.Objects.{AscendsIf, ListRow, ValueRow, kept_at, kept_in, process_held}
+use Rattle.nomos_index.specs.Objects.{AscendsIf, FitsLists, FitsRows, ListRow, ValueRow, kept_at, kept_in, process_held}
 use Rattle.nomos_index.specs.Placing.{CanPlace, ProcessComes}
 use Rattle.nomos_index.specs.Spanning.{HasVariable, Spans}
 use Rattle.nomos_index.specs.declared.kept.Kept.{Kept}
@@ -56,21 +56,32 @@ pub spans-kept : (h : Holding) → IsHolding h → (place n : ℕ) (k : Kept) �
     → (w : ℕ) → IsSome (name_in h.cells n w) → Spans (Some k) w
 spans-kept h is place n k at w some = subst (λ o. Spans o w) (found-kept h is place n k at) (is.held n w some)
 
--- its row ascends, where that is kept of it
+-- its rows are as it is kept of them
+pub rows-kept : (h : Holding) → IsHolding h → (place n : ℕ) (k : KeptProcess)
+    → kept_at h.slots place ≡ Some (n, kept.Process k)
+    → FitsRows (Some (kept.Process k)) (values_at h place) (lists_at h place)
+rows-kept h is place n k at =
+    is.fit place (record { number = n; item = Some (kept.Process k) }) (slot-kept h.slots place n (kept.Process k) at)
+
+-- its values ascend, where that is kept of it
 pub ascends-kept : (h : Holding) → IsHolding h → (place n : ℕ) (k : KeptProcess)
     → kept_at h.slots place ≡ Some (n, kept.Process k) → AscendsIf k.ascends (values_at h place)
-ascends-kept h is place n k at =
-    is.fit place (record { number = n; item = Some (kept.Process k) }) (slot-kept h.slots place n (kept.Process k) at)
+ascends-kept h is place n k at = (rows-kept h is place n k at).0
+
+-- its lists are as it is kept of them
+pub lists-kept : (h : Holding) → IsHolding h → (place n : ℕ) (k : KeptProcess)
+    → kept_at h.slots place ≡ Some (n, kept.Process k) → FitsLists k.gone k.potential (lists_at h place)
+lists-kept h is place n k at = (rows-kept h is place n k at).1
 
 module _ (before after : Holding) (is : IsHolding before) (pid place : ℕ) (k next : KeptProcess) (values : ValueRow)
     (its_lists : ListRow) (at : ProcessIsAt before pid place k)
     (comes : ProcessComes before after pid place next values its_lists)
     (spans : (w : ℕ) → IsSome (name_in after.cells pid w) → HasVariable next.span w)
-    (ascends : AscendsIf next.ascends values) where
-  can : CanPlace before place pid (kept.Process k) (Some (kept.Process next)) values after.cells
+    (fits : FitsRows (Some (kept.Process next)) values its_lists) where
+  can : CanPlace before place pid (kept.Process k) (Some (kept.Process next)) values its_lists after.cells
   can = record {
     stood = slot-kept before.slots place pid (kept.Process k) at.at;
-    fits = ascends;
+    fits = fits;
     others = comes.others;
     its_own = spans;
   }

@@ -146,7 +146,8 @@ module _ (s : Inside) (is : IsIndexed s) (old new number place : ℕ) (m next : 
   stood : slice_get before.slots place ≡ Some (record { number = number; item = Some (kept.Message m) })
   stood = slot-kept before.slots place number (kept.Message m) at.at
 
-  can : CanPlace before place number (kept.Message m) (Some (kept.Message next)) (values_at before place) after.cells
+  can : CanPlace before place number (kept.Message m) (Some (kept.Message next)) (values_at before place)
+      (lists_at before place) after.cells
   can = record {
     stood = stood;
     fits = λ brings.

@@ -110,6 +110,13 @@ module _ {X : Type 0} (v : VarId) (b : List (VarId × X)) (n : ℕ) where
 -- ---- rows that ascend
 
 module _ {X : Type 0} where
+  -- the number of a pair's variable, and whether it is lower than this one
+  abbrev pub number_of : VarId × X → ℕ
+  number_of e = e.0.0
+
+  abbrev pub has_lower : ℕ → VarId × X → Bool
+  has_lower v e = nat_lt e.0.0 v
+
   -- a map ascends
   pub map-ascends : (b : List (VarId × X)) → bindings_of b ≡ b → IsAscending b
   map-ascends b same = subst IsAscending same (bindings_of-ascending b)

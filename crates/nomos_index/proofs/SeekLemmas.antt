@@ -11,7 +11,7 @@ use Rattle.nomos_deeds.specs.SeenObjects.{seen_process}
 use Rattle.nomos_slots.specs.Cells.{Cell}
 use Rattle.nomos_slots.specs.declared.numbered.Slot.{Slot}
 use Rattle.nomos_index.specs.Indexed.{Holding, IsHolding, standing_at, state_of}
-use Rattle.nomos_index.specs.Objects.{FitsRow, HasValue, ListRow, ValueRow, kept_at, kept_in, message_held, object_of, objects_of, process_held}
+use Rattle.nomos_index.specs.Objects.{FitsRows, HasValue, ListRow, ValueRow, kept_at, kept_in, message_held, object_of, objects_of, process_held}
 use Rattle.nomos_index.specs.Sought.{IsFirstPlace, some_passes}
 use Rattle.nomos_index.specs.declared.kept.Kept.{Kept}
 use Rattle.nomos_index.specs.declared.kept.Kept.TheVariants as kept
@@ -124,7 +124,8 @@ value-standing h is place n k holds = by_slot (slice_get h.slots place) refl hol
     apart : true ≡ false → ⊥
     apart e = cc
 
-    by_item : (s : Slot Kept) (item : Option Kept) → s.item ≡ item → FitsRow item row
+    by_item : (s : Slot Kept) (item : Option Kept) → s.item ≡ item
+        → FitsRows item row (slice_index_or h.list_rows place [])
         → (let paired : Kept → ℕ × Kept = λ k. (s.number, k) in option_map paired item) ≡ Some (n, kept.Message k)
         → HasValue k.brings row
     by_item s None is fits same = absurd (none-some (n, kept.Message k) same)

@@ -48,8 +48,9 @@ holding-same before after same is = record {
       subst (λ (d : Numbers). Below after.names d) (sym same.drawn)
       (subst (λ (s : List (Slot TypeId)). Below s before.drawn) (sym same.names) is.names_below);
   fit =
-      subst (λ (r : List ValueRow). FitRows after.slots r) (sym same.value_rows)
-      (subst (λ (s : List (Slot Kept)). FitRows s before.value_rows) (sym same.slots) is.fit);
+      subst (λ (r : List ListRow). FitRows after.slots after.value_rows r) (sym same.list_rows)
+      (subst (λ (r : List ValueRow). FitRows after.slots r before.list_rows) (sym same.value_rows)
+      (subst (λ (s : List (Slot Kept)). FitRows s before.value_rows before.list_rows) (sym same.slots) is.fit));
   held =
       subst (λ (s : List (Slot Kept)). AreHeld s after.cells) (sym same.slots)
       (λ p v has. is.held p v (subst (λ (o : Option ℕ). IsSome o) (same.channels p v) has));

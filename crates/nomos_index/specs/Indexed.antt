@@ -68,7 +68,7 @@ pub record IsHolding (h : Holding) : Type 0 where
   pub below : All (λ n. n < h.drawn.next_object) (numbers h.slots)
   pub names_ascending : IsAscending h.names
   pub names_below : All (λ n. n < h.drawn.next_name) (numbers h.names)
-  pub fit : FitRows h.slots h.value_rows
+  pub fit : FitRows h.slots h.value_rows h.list_rows
   pub held : AreHeld h.slots h.cells
 
 -- what is kept now

@@ -1,5 +1,5 @@
 -- The objects that slots, rows and cells stand for.
-use Rattle.std.specs.Prelude.{◌≡◌, ◌≤◌, ◌==◌, ◌+◌, ◌*◌, ℕ, Bool, true, cond, List, [], ◌∷◌, ◌++◌, length, Option, Some, None, IsSome, slice_get, slice_index_or}
+use Rattle.std.specs.Prelude.{◌≡◌, ◌≤◌, ◌==◌, ◌+◌, ◌*◌, ℕ, Bool, true, cond, List, [], ◌∷◌, ◌++◌, length, drop, Option, Some, None, IsSome, IfSome, slice_get, slice_index_or}
 use Rattle.std.specs.Option.{option_map, option_to_list}
 use Rattle.nomos_ir.specs.Bindings.{IsAscending, bindings_of}
 use Rattle.nomos_ir.specs.Value.{Value}
@@ -22,6 +22,7 @@ use Rattle.nomos_slots.specs.Numbers.{found}
 use Rattle.nomos_slots.specs.declared.numbered.Slot.{Slot}
 use Rattle.nomos_index.specs.declared.kept.Kept.{Kept}
 use Rattle.nomos_index.specs.declared.kept.Kept.TheVariants as kept
+use Rattle.nomos_index.specs.declared.kept.KeptLists.{KeptLists}
 use Rattle.nomos_index.specs.declared.kept.KeptMessage.{KeptMessage}
 use Rattle.nomos_index.specs.declared.kept.KeptProcess.{KeptProcess}
 use Rattle.nomos_index.specs.declared.span.Span.{Span}
@@ -65,14 +66,14 @@ abbrev pub first_value : ValueRow → Option Value
 first_value [] = None
 first_value (e ∷ values) = Some e.1
 
--- the process, and the message, of a number
+-- the process, and the message, of a number; of its row of lists those at the front that are gone are no lists of it
 abbrev pub process_held : List Cell → ℕ → ValueRow → ListRow → KeptProcess → Process
 process_held cells number values its_lists k = record {
   pid = number;
   mode = k.mode;
   code = k.code;
   values = values;
-  lists = its_lists;
+  lists = drop k.gone its_lists;
   channels = channels_of cells number;
   offers = k.offers;
   base = k.base;
@@ -90,10 +91,10 @@ message_held number values k = record {
   purse = k.purse;
 }
 
--- what is kept of a process with these plain fields, whose channels stand in this span, and whose values are known to
--- ascend or not
-abbrev pub kept_of : SeenProcess → Option Span → Bool → KeptProcess
-kept_of fields span ascends = record {
+-- what is kept of a process with these plain fields, whose channels stand in this span, whose values are known to
+-- ascend or not, and of whose lists this is kept
+abbrev pub kept_of : SeenProcess → Option Span → Bool → KeptLists → KeptProcess
+kept_of fields span ascends its_lists = record {
   mode = fields.mode;
   code = fields.code;
   offers = fields.offers;
@@ -102,6 +103,8 @@ kept_of fields span ascends = record {
   payer = fields.payer;
   span = span;
   ascends = ascends;
+  gone = its_lists.gone;
+  potential = its_lists.potential;
 }
 
 -- the object of a number
@@ -135,18 +138,26 @@ abbrev pub HasValue : SeenPayload → ValueRow → Type 0
 HasValue brought values = brought ≡ seen.Value → 1 ≤ length values
 
 -- a row ascends, where that is known of it
-abbrev pub AscendsIf : Bool → ValueRow → Type 0
-AscendsIf known values = known ≡ true → IsAscending values
+abbrev pub AscendsIf : {X : Type 0} → Bool → List (VarId × X) → Type 0
+AscendsIf known row = known ≡ true → IsAscending row
 
--- A message that brings a value has it in its row; the row of a process ascends, where that is kept of it.
-abbrev pub FitsRow : Option Kept → ValueRow → Type 0
-FitsRow (Some (kept.Message k)) values = HasValue k.brings values
-FitsRow (Some (kept.Process k)) values = AscendsIf k.ascends values
-FitsRow None values = Unit {0}
+-- where it is known what a row of lists carries, that is its potential, and the row ascends
+abbrev pub IsPotentialIf : Option ℕ → ListRow → Type 0
+IsPotentialIf known its_lists = IfSome known (λ n. IsAscending its_lists × (potential_in its_lists ≡ n))
 
-abbrev pub FitRows : List (Slot Kept) → List ValueRow → Type 0
-FitRows slots rows = (place : ℕ) (slot : Slot Kept) → slice_get slots place ≡ Some slot
-    → FitsRow slot.item (slice_index_or rows place [])
+-- a row has the lists that are gone, and the others carry what is kept of them
+abbrev pub FitsLists : ℕ → Option ℕ → ListRow → Type 0
+FitsLists gone potential its_lists = (gone ≤ length its_lists) × IsPotentialIf potential (drop gone its_lists)
+
+-- A message that brings a value has it in its row; the rows of a process are as it is kept of them.
+abbrev pub FitsRows : Option Kept → ValueRow → ListRow → Type 0
+FitsRows (Some (kept.Message k)) values its_lists = HasValue k.brings values
+FitsRows (Some (kept.Process k)) values its_lists = AscendsIf k.ascends values × FitsLists k.gone k.potential its_lists
+FitsRows None values its_lists = Unit {0}
+
+abbrev pub FitRows : List (Slot Kept) → List ValueRow → List ListRow → Type 0
+FitRows slots value_rows list_rows = (place : ℕ) (slot : Slot Kept) → slice_get slots place ≡ Some slot
+    → FitsRows slot.item (slice_index_or value_rows place []) (slice_index_or list_rows place [])
 
 -- channels are those of processes that are there, each in the span of its process
 abbrev pub AreHeld : List (Slot Kept) → List Cell → Type 0

@@ -4,7 +4,7 @@ use Rattle.nomos_ir.specs.Bindings.{bound_to}
 use Rattle.nomos_ir.specs.declared.ids.VarId.{VarId}
 use Rattle.nomos_slots.specs.Cells.{name_in}
 use Rattle.nomos_index.specs.Indexed.{Holding}
-use Rattle.nomos_index.specs.Objects.{FitsRow, ListRow, ValueRow}
+use Rattle.nomos_index.specs.Objects.{FitsRows, ListRow, ValueRow}
 use Rattle.nomos_index.specs.Spanning.{Spans}
 use Rattle.nomos_index.specs.declared.kept.Kept.{Kept}
 
@@ -17,12 +17,12 @@ name_or None other = other
 abbrev pub name_with : ℕ → List (VarId × ℕ) → ℕ → ℕ → Option ℕ → Option ℕ
 name_with process pairs p v name = cond (process == p) (name_or (bound_to v pairs) name) name
 
--- An object comes, under the next number, with its rows and its channels. A message has what it brings in its row, the
--- row of a process ascends where that is kept of it, and only a process has channels, which stand in its span.
+-- An object comes, under the next number, with its rows and its channels. Its rows are as it is kept of them, and only
+-- a process has channels, which stand in its span.
 pub record ObjectComes (before after : Holding) (number : ℕ) (k : Kept) (values : ValueRow) (its_lists : ListRow)
     : Type 0 where
   pub is_next : number ≡ before.drawn.next_object
-  pub fits : FitsRow (Some k) values
+  pub fits : FitsRows (Some k) values its_lists
   pub its_own : (v : ℕ) → IsSome (name_in after.cells number v) → Spans (Some k) v
   pub others : (p v : ℕ) → p ≢ number → name_in after.cells p v ≡ name_in before.cells p v
   pub slots : after.slots ≡ before.slots ++ (record { number = number; item = Some k }) ∷ []

@@ -3,7 +3,7 @@ use Rattle.std.specs.Prelude.{◌≡◌, ◌≢◌, ℕ, List, IsSome, Option, S
 use Rattle.nomos_slots.specs.Cells.{Cell, name_in}
 use Rattle.nomos_slots.specs.Numbers.{put_at}
 use Rattle.nomos_index.specs.Indexed.{Holding}
-use Rattle.nomos_index.specs.Objects.{FitsRow, ListRow, ValueRow}
+use Rattle.nomos_index.specs.Objects.{FitsRows, ListRow, ValueRow}
 use Rattle.nomos_index.specs.Spanning.{Spans}
 use Rattle.nomos_index.specs.declared.kept.Kept.{Kept}
 use Rattle.nomos_index.specs.declared.kept.Kept.TheVariants as kept
@@ -18,12 +18,12 @@ with_place place item values its_lists cells h = record h {
   cells = cells;
 }
 
--- An object is kept there; what comes in its place fits its row, and only a process has channels, which stand in its
+-- An object is kept there; what comes in its place fits its rows, and only a process has channels, which stand in its
 -- span. Those of other processes stay.
 pub record CanPlace (h : Holding) (place number : ℕ) (before : Kept) (item : Option Kept) (values : ValueRow)
-    (cells : List Cell) : Type 0 where
+    (its_lists : ListRow) (cells : List Cell) : Type 0 where
   pub stood : slice_get h.slots place ≡ Some (record { number = number; item = Some before })
-  pub fits : FitsRow item values
+  pub fits : FitsRows item values its_lists
   pub others : (p v : ℕ) → p ≢ number → name_in cells p v ≡ name_in h.cells p v
   pub its_own : (v : ℕ) → IsSome (name_in cells number v) → Spans item v
 

@@ -1,5 +1,5 @@
 //! A process of an indexed state changes: its plain fields, its channels, its values, its lists.
-ghost use Rattle.std.specs.Prelude.{◌≡◌, ◌≤◌, ◌<◌, ◌+◌, OnErr, OnOk, Some};
+ghost use Rattle.std.specs.Prelude.{◌≡◌, ◌≤◌, ◌<◌, ◌+◌, IsTrue, OnErr, OnOk, Some};
 ghost use Rattle.nomos_machine.specs.Revised.{with_channel, with_value, without_channel};
 ghost use Rattle.nomos_parts.specs.SmallChanges.{Becomes, with_fields, with_list_change, with_lists, with_values};
 ghost use Rattle.nomos_slots.specs.Numbers.{put_at};
@@ -7,11 +7,12 @@ ghost use Rattle.nomos_index.specs.Objects.{kept_at};
 ghost use Rattle.nomos_index.specs.declared.kept.Kept.TheVariants as kept;
 
 use crate::inside::Inside;
-use crate::kept::{Kept, KeptProcess};
+use crate::kept::{Kept, KeptLists, KeptProcess};
 use crate::list_rows::{change_row, own_row};
 use crate::looking::process_at;
 use crate::span::widened;
 use crate::value_rows::{bind_if, bind_in};
+use crate::weights::kept_lists;
 use nomos_deeds::sight::SeenProcess;
 use nomos_ir::ids::VarId;
 use nomos_ir::value::Value;
@@ -43,6 +44,41 @@ fn keep_order(
     objects.put(place, Some(Kept::Process(next)));
 }
 
+// Whether the same is kept of a process, and it is known what its lists carry.
+fn is_kept(lists: KeptLists, before: &KeptProcess) -> bool
+    ensures { IsTrue result → (lists.gone ≡ before.now.gone) × (lists.potential ≡ before.now.potential) }
+{
+    match (lists.potential, before.potential) {
+        (Some(dths), Some(kept)) => lists.gone == before.gone && dths == kept,
+        _ => false,
+    }
+}
+
+// This is kept of the lists of the process at a place; nothing is written where it is already.
+fn keep_lists(
+    objects: &mut Numbered<Kept>,
+    place: usize,
+    pid: u32,
+    before: KeptProcess,
+    lists: KeptLists,
+)
+    requires { kept_at objects.old.now place ≡ Some (pid, kept.Process before) }
+    ensures now { objects.new.now ≡ put_at objects.old.now place
+        (Some (kept.Process (record before { gone = lists.gone; potential = lists.potential }))) }
+    ensures marked { objects.new.marked ≡ objects.old.marked }
+    ensures room { objects.old.room ≤ objects.new.room }
+{
+    if is_kept(lists, &before) {
+        return;
+    }
+    let next = KeptProcess {
+        gone: lists.gone,
+        potential: lists.potential,
+        ..before
+    };
+    objects.put(place, Some(Kept::Process(next)));
+}
+
 impl Inside {
     /// The process of this number has these plain fields, but for the number, which it has already. It takes no room.
     #[inline(always)]
@@ -54,7 +90,7 @@ impl Inside {
         let Some((place, before)) = process_at(&self.contents, fields.pid) else {
             return;
         };
-        let next = KeptProcess::of(fields, before.span, before.ascends);
+        let next = KeptProcess::of(fields, before.span, before.ascends, before.lists());
         self.contents.objects.put(place, Some(Kept::Process(next)));
     }
 
@@ -161,7 +197,14 @@ impl Inside {
             value,
             before.ascends,
         )?;
-        change_row(&mut self.contents.lists, place, used_up, bound);
+        let kept = change_row(
+            &mut self.contents.lists,
+            place,
+            used_up,
+            bound,
+            before.lists(),
+        );
+        keep_lists(&mut self.contents.objects, place, pid, before, kept);
         Ok(())
     }
 
@@ -172,9 +215,11 @@ impl Inside {
         ensures room { self.old.room ≤ self.new.room + 1 }
         ensures marked { self.new.marked ≡ self.old.marked }
     {
-        let Some((place, _)) = process_at(&self.contents, pid) else {
+        let Some((place, before)) = process_at(&self.contents, pid) else {
             return;
         };
+        let kept = kept_lists(&lists);
+        keep_lists(&mut self.contents.objects, place, pid, before, kept);
         let _before = self.contents.lists.replace(place, lists);
         self.room -= 1;
     }

@@ -9,6 +9,7 @@ use crate::binding::{bind_pairs, reserve_names};
 use crate::inside::Inside;
 use crate::kept::{Kept, KeptMessage, KeptProcess};
 use crate::span::span_of;
+use crate::weights::kept_lists;
 use nomos_deeds::sight::SeenPayload;
 use nomos_ir::ids::VarId;
 use nomos_ir::value::Value;
@@ -84,7 +85,8 @@ impl Inside {
         reserve_names(&mut self.contents.channels, alloc, count, self.room)?;
         bind_pairs(&mut self.contents.channels, pid, &born.channels);
         let ascends = is_map(&born.values);
-        let kept = KeptProcess::of(born.fields, span_of(&born.channels), ascends);
+        let lists = kept_lists(&born.lists);
+        let kept = KeptProcess::of(born.fields, span_of(&born.channels), ascends, lists);
         self.contents.objects.push(pid, Kept::Process(kept));
         self.contents.values.push(born.values);
         self.contents.lists.push(born.lists);

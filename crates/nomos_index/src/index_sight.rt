@@ -3,6 +3,7 @@ ghost use Rattle.std.specs.Prelude.{◌≡◌};
 ghost use Rattle.nomos_deeds.specs.SeenObjects.{seen_list};
 
 use crate::inside::Inside;
+use crate::list_rows::lists_left;
 use crate::looking::process_at;
 use crate::sought;
 use crate::weights::{affords, is_light_with, list_of};
@@ -44,24 +45,29 @@ impl Sight for Inside {
     }
 
     fn list(&self, pid: u32, w: VarId) -> Option<SeenList> {
-        let (place, _) = process_at(&self.contents, pid)?;
-        let list = list_of(self.contents.lists.row(place), w)?;
+        let (place, p) = process_at(&self.contents, pid)?;
+        let list = list_of(lists_left(self.contents.lists.row(place), p.gone), w)?;
         Some(seen_list(list))
     }
 
     fn is_light_with(&self, pid: u32, w: VarId, first: &ValueNode) -> bool {
         match process_at(&self.contents, pid) {
-            Some((place, _)) => match list_of(self.contents.lists.row(place), w) {
-                Some(list) => is_light_with(list, first),
-                None => true,
-            },
+            Some((place, p)) => {
+                match list_of(lists_left(self.contents.lists.row(place), p.gone), w) {
+                    Some(list) => is_light_with(list, first),
+                    None => true,
+                }
+            }
             None => true,
         }
     }
 
     fn affords(&self, pid: u32, gas: u64) -> bool {
         match process_at(&self.contents, pid) {
-            Some((place, p)) => affords(self.contents.lists.row(place), p.purse, gas),
+            Some((place, p)) => {
+                let lists = lists_left(self.contents.lists.row(place), p.gone);
+                affords(lists, p.potential, p.purse, gas)
+            }
             None => false,
         }
     }

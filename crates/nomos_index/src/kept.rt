@@ -14,20 +14,36 @@ pub(crate) struct KeptProcess {
     pub(crate) mode: Mode,
     /// Whether it is known that its values stand in ascending order.
     pub(crate) ascends: bool,
+    /// How many pairs at the front of its row of lists are used up, and are no lists of it any more.
+    pub(crate) gone: u16,
     pub(crate) code: CodeId,
     pub(crate) offers: u32,
     pub(crate) base: Option<u32>,
     pub(crate) payer: u32,
+    /// What its lists carry, in Dths, where that is known; and then they are known to stand in ascending order.
+    pub(crate) potential: Option<u32>,
     /// Among which variables its channels may stand.
     pub(crate) span: Option<Span>,
     pub(crate) purse: u128,
 }
 
+/// What is kept of a row of lists beside it, as a process keeps it.
+#[derive(Clone, Copy, Debug)]
+pub(crate) struct KeptLists {
+    pub(crate) gone: u16,
+    pub(crate) potential: Option<u32>,
+}
+
 impl KeptProcess {
-    /// What is kept of a process with these plain fields, whose channels stand in this span, and whose values are known
-    /// to ascend or not.
-    pub(crate) fn of(fields: SeenProcess, span: Option<Span>, ascends: bool) -> KeptProcess
-        ensures { result ≡ kept_of fields span ascends }
+    /// What is kept of a process with these plain fields, whose channels stand in this span, whose values are known to
+    /// ascend or not, and of whose lists this is kept.
+    pub(crate) fn of(
+        fields: SeenProcess,
+        span: Option<Span>,
+        ascends: bool,
+        lists: KeptLists,
+    ) -> KeptProcess
+        ensures { result ≡ kept_of fields span ascends lists }
     {
         KeptProcess {
             mode: fields.mode,
@@ -38,6 +54,18 @@ impl KeptProcess {
             payer: fields.payer,
             span,
             purse: fields.purse,
+            gone: lists.gone,
+            potential: lists.potential,
+        }
+    }
+
+    /// What is kept of its lists.
+    pub(crate) fn lists(&self) -> KeptLists
+        ensures { result ≡ record { gone = self.now.gone; potential = self.now.potential } }
+    {
+        KeptLists {
+            gone: self.gone,
+            potential: self.potential,
         }
     }
 }

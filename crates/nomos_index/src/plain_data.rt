@@ -11,6 +11,7 @@ ghost use Rattle.nomos_index.specs.Spanning.{HasVariable};
 use crate::copying::{copy_lists, copy_values};
 use crate::inside::{Columns, Inside};
 use crate::kept::{Kept, KeptMessage, KeptProcess};
+use crate::list_rows::lists_left;
 use crate::looking::kept_at;
 use crate::span::{Span, next_in};
 use crate::walking::typed_at;
@@ -72,7 +73,7 @@ fn copy_process(
         (values_at (held_now contents.now) place) (lists_at (held_now contents.now) place) p.now) }
 {
     let values = copy_values(alloc, contents.values.row(place))?;
-    let lists = copy_lists(alloc, contents.lists.row(place))?;
+    let lists = copy_lists(alloc, lists_left(contents.lists.row(place), p.gone))?;
     let channels = copy_channels(contents, alloc, pid, p.span)?;
     Ok(Process {
         pid,

@@ -15,6 +15,7 @@ ghost use Rattle.nomos_index.specs.Objects.{ListRow, ValueRow, channels_of, firs
 
 use crate::inside::Columns;
 use crate::kept::KeptProcess;
+use crate::list_rows::lists_left;
 use crate::looking::{message_at, process_at};
 use crate::sought;
 use nomos_deeds::machine::View;
@@ -34,7 +35,7 @@ pub(crate) fn lists(contents: &Columns, pid: u32) -> &[(VarId, PotentialList)]
     ensures { (p : Process) → process_at (state_of (held_now contents.now)) pid ≡ Some p → result.now ≡ p.lists }
 {
     match process_at(contents, pid) {
-        Some((place, _)) => contents.lists.row(place),
+        Some((place, p)) => lists_left(contents.lists.row(place), p.gone),
         None => &[],
     }
 }

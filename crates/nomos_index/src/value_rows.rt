@@ -13,16 +13,16 @@ use nomos_ir::value::Value;
 use nomos_slots::shelf::Shelf;
 use std::alloc::{AllocError, Global};
 
-/// How many pairs at the front have lower variables.
-pub(crate) fn count_along<X>(row: &[(VarId, X)], v: VarId) -> usize
+// How many pairs at the front have lower variables.
+fn count_along<X>(row: &[(VarId, X)], v: VarId) -> usize
     ensures count { result ≡ prefix_len (λ e. nat_lt e.0.0 v.0) row.now }
     ensures within { result ≤ length row.now }
 {
     row.iter().take_while(|pair| pair.0.0 < v.0).count()
 }
 
-// The same, where pairs ascend: by halves.
-fn count_by_halves(row: &[(VarId, Value)], v: VarId) -> usize
+// The same by halves, where pairs ascend.
+fn count_by_halves<X>(row: &[(VarId, X)], v: VarId) -> usize
     requires { IsAscending row.now }
     ensures count { result ≡ prefix_len (λ e. nat_lt e.0.0 v.0) row.now }
     ensures within { result ≤ length row.now }
@@ -30,8 +30,8 @@ fn count_by_halves(row: &[(VarId, Value)], v: VarId) -> usize
     row.partition_point(|pair| pair.0.0 < v.0)
 }
 
-// How many pairs at the front have lower variables: by halves, where it is known that pairs ascend.
-fn count_below(row: &[(VarId, Value)], v: VarId, ascends: bool) -> usize
+/// How many pairs at the front have lower variables: by halves, where it is known that pairs ascend.
+pub(crate) fn count_below<X>(row: &[(VarId, X)], v: VarId, ascends: bool) -> usize
     requires { AscendsIf ascends row.now }
     ensures count { result ≡ prefix_len (λ e. nat_lt e.0.0 v.0) row.now }
     ensures within { result ≤ length row.now }

@@ -1,14 +1,12 @@
 //! What is due of a call: what is to be written, the status, the journal, and what is accepted.
 
 ghost use Rattle.std.specs.Prelude.{◌≡◌, None, IfOk, IfErr};
-ghost use Rattle.nomos_due.specs.DueLines.{no_entries};
 ghost use Rattle.nomos_due.specs.Replays.{no_journal};
 ghost use Rattle.nomos_top.specs.Outcome.{bare, given};
 ghost use Rattle.nomos_top.specs.mirror.Judging.{IsNothing, behind_of, outcome_of, pooled_behind_of};
 
-use nomos_due::due::Due;
+use nomos_due::due::{Due, no_entries};
 use nomos_due::pools::{PoolDue, PoolPart};
-use nomos_ir::items::Items;
 use nomos_ir::limits::USUAL_LIMIT;
 use nomos_legal::journal::Journal;
 use nomos_script::script::Script;
@@ -29,16 +27,6 @@ pub(crate) struct DoneSoFar {
     pub(crate) accepted: Option<Accepted>,
     pub(crate) journal: Journal,
     pub(crate) taken: Option<Script>,
-}
-
-// The journal without entries.
-fn no_entries(alloc: Global, limit: u32) -> Journal
-    ensures { result ≡ no_entries limit }
-{
-    Journal {
-        limit,
-        entries: Items::of_vec(Vec::new(alloc)),
-    }
 }
 
 /// Nothing was done before memory ran out.

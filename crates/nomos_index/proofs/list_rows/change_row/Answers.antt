@@ -1,15 +1,14 @@
-use Rattle.std.proofs.Common.{◌∙◌, [], List, ap, slice_index_or, slice_set}
-use Rattle.nomos_parts.specs.SmallChanges.{bound_if, unbound_if}
+use Rattle.std.proofs.Common.{◌∙◌, ap}
+use Rattle.nomos_parts.specs.SmallChanges.{bound_if}
 use Rattle.nomos_index.specs.Objects.{ListRow}
-use Rattle.nomos_index.proofs.ListRowLemmas.{changed-twice}
+use Rattle.nomos_index.proofs.LeftLemmas.{only-twice}
 use Rattle.nomos_index.proofs.list_rows.change_row.Goals as goal
 
-pub returns-clause-now : goal.returns-clause-now
-returns-clause-now c =
-    let rows = c.args.lists.now.now in
-    let place = c.args.place in
-    let row : ListRow = slice_index_or rows place [] in
-    c.bind_in.ensures.now
-    ∙ ap (λ (rs : List ListRow). slice_set rs place (bound_if c.args.bound (slice_index_or rs place [])))
-    c.unbind_in.ensures.now
-    ∙ changed-twice rows place (unbound_if c.args.used_up row) (bound_if c.args.bound) c.requires.within
+pub returns-clause-row : goal.returns-clause-row
+returns-clause-row c =
+    only-twice c.args.lists.now.now c.unbind_in-left.new.lists.now c.bind_in.new.lists.now c.args.place
+    c.unbind_in-left.ensures.row c.bind_in.ensures.row
+
+pub returns-clause-left : goal.returns-clause-left
+returns-clause-left c =
+    c.bind_in.ensures.left ∙ ap (λ (ls : ListRow). bound_if c.args.bound ls) c.unbind_in-left.ensures.left

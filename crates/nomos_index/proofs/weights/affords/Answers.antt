@@ -5,7 +5,6 @@ use Rattle.nomos_index.proofs.weights.affords.Goals as goal
 
 pub returns-in-Some : goal.returns-in-Some
 returns-in-Some c =
-    c.is_some.ensures
-    ∙ both-told c.purse_beside.result c.args.gas c.in-Some.left (potential_in c.args.lists.now) _ c.args.purse
-    c.purse_beside.ensures (potential-sum c.args.lists.now)
-    (omega (arith, c.from.ensures, c.in-Some.ensures))
+    c.covers.ensures
+    ∙ both-told c.args.gas c.in-Some.left (potential_in c.args.lists.now) _ c.args.purse
+    (potential-sum c.args.lists.now) (omega (arith, c.from.ensures, c.in-Some.ensures))

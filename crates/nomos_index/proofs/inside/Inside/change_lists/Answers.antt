@@ -1,12 +1,14 @@
-use Rattle.std.proofs.Common.{◌≤◌, ◌-◌, ◌∙◌, [], List, refl, ap, subst, arith, slice_index_or, slice_set}
+use Rattle.std.proofs.Common.{◌≤◌, ◌-◌, ◌∙◌, [], List, drop, refl, sym, ap, subst, arith, slice_index_or, slice_set}
 use Rattle.std.proofs.lemmas.Option.{MatchOption-at_some}
+use Rattle.nomos_machine.specs.declared.object.Process.{Process}
 use Rattle.nomos_parts.specs.SmallChanges.{Becomes, bound_if, unbound_if, with_list_change}
 use Rattle.nomos_index.specs.Indexed.{Indexed, held_now, state_of}
 use Rattle.nomos_index.specs.Looked.{ProcessIsAt, lists_at, values_at}
-use Rattle.nomos_index.specs.Objects.{AscendsIf, ListRow, ValueRow}
+use Rattle.nomos_index.specs.Objects.{AscendsIf, FitsLists, ListRow, ValueRow, process_held}
+use Rattle.nomos_index.specs.declared.kept.KeptLists.{KeptLists}
 use Rattle.nomos_index.proofs.AgainLemmas.{on_any_err, resting-indexed, resting-marks, resting-state}
-use Rattle.nomos_index.proofs.ChangingLemmas.{rows-become, rows-indexed, same_slots}
-use Rattle.nomos_index.proofs.ProcessLemmas.{ascends-kept}
+use Rattle.nomos_index.proofs.ChangingLemmas.{rows-become, rows-indexed}
+use Rattle.nomos_index.proofs.ProcessLemmas.{ascends-kept, lists-kept}
 use Rattle.nomos_index.proofs.RowLemmas.{bound-ascends}
 use Rattle.nomos_index.proofs.inside.Inside.change_lists.Goals as goal
 
@@ -18,6 +20,28 @@ bind_if-requires-clause-order c =
     let at : ProcessIsAt (held_now s.contents) c.args.pid place k =
     MatchOption-at_some _ _ (place, k) c.in-Some.is c.process_at.ensures in
     ascends-kept (held_now s.contents) c.self.invariant.now place c.args.pid k at.at
+
+pub change_row-kept-requires-clause-fits : goal.change_row-kept-requires-clause-fits
+change_row-kept-requires-clause-fits c =
+    let s = c.self.inside in
+    let place = c.in-Some.place in
+    let k = c.in-Some.before in
+    let at : ProcessIsAt (held_now s.contents) c.args.pid place k =
+    MatchOption-at_some _ _ (place, k) c.in-Some.is c.process_at.ensures in
+    subst (λ (kept : KeptLists). FitsLists kept.gone kept.potential
+    (slice_index_or c.own_row.new.lists.now place [])) (sym c.lists.ensures)
+    (subst (λ (rows : List ListRow). FitsLists k.gone k.potential (slice_index_or rows place []))
+    (sym c.own_row.ensures.now)
+    (lists-kept (held_now s.contents) c.self.invariant.now place c.args.pid k at.at))
+
+pub keep_lists-requires : goal.keep_lists-requires
+keep_lists-requires c =
+    let s = c.self.inside in
+    let place = c.in-Some.place in
+    let k = c.in-Some.before in
+    let at : ProcessIsAt (held_now s.contents) c.args.pid place k =
+    MatchOption-at_some _ _ (place, k) c.in-Some.is c.process_at.ensures in
+    at.at
 
 pub invariant_of-self : goal.invariant_of-self
 invariant_of-self c =
@@ -75,26 +99,27 @@ invariant_of-self-2 c =
     let k = c.in-Some.before in
     let at : ProcessIsAt (held_now s.contents) c.args.pid place k =
     MatchOption-at_some _ _ (place, k) c.in-Some.is c.process_at.ensures in
-    let change = c.args.change in
     let h = held_now s.contents in
+    let change = c.args.change in
     let row : ValueRow = bound_if change.value (values_at h place) in
-    let list_row : ListRow = bound_if change.bound (unbound_if change.used_up (lists_at h place)) in
-    let turned : List ListRow → List ListRow = λ rows.
-    slice_set rows place (bound_if change.bound (unbound_if change.used_up (slice_index_or rows place []))) in
-    let list_rows = c.change_row.ensures.now ∙ ap turned c.own_row.ensures.now in
+    let kept = c.change_row-kept.result in
+    let rows = c.change_row-kept.new.lists.now in
+    let list_rows =
+    c.change_row-kept.ensures.row
+    ∙ ap (λ (rs : List ListRow). slice_set rs place (slice_index_or rows place [])) c.own_row.ensures.now in
     let order : AscendsIf k.ascends row = λ known.
     bound-ascends change.value (values_at h place)
     (ascends-kept h c.self.invariant.now place c.args.pid k at.at known) in
-    let its_marked = c.change_row.ensures.marked ∙ c.own_row.ensures.marked in
+    let its_marked = c.change_row-kept.ensures.marked ∙ c.own_row.ensures.marked in
     let less : s.room - 2 ≤ s.room = omega arith in
-    let as_much : s.contents.objects.room ≤ s.contents.objects.room = omega arith in
     let has : s.room - 2 ≤ c.bind_if.new.values.room =
     omega (arith, c.bind_if.ensures.room, c.self.invariant.has_room.values) in
-    let has_lists : s.room - 2 ≤ c.change_row.new.lists.room =
-    omega (arith, c.own_row.ensures.room, c.change_row.ensures.room, c.self.invariant.has_room.its_lists) in
-    rows-indexed s c.self.invariant c.args.pid place k at s.contents.objects c.bind_if.new.values c.change_row.new.lists
-    k.ascends row list_row (s.room - 2) (same_slots s c.self.invariant c.args.pid place k at) c.in_ok-bind_if.ensures.ok
-    list_rows order refl c.bind_if.ensures.marked its_marked less as_much has has_lists
+    let has_lists : s.room - 2 ≤ c.change_row-kept.new.lists.room =
+    omega (arith, c.own_row.ensures.room, c.change_row-kept.ensures.room, c.self.invariant.has_room.its_lists) in
+    rows-indexed s c.self.invariant c.args.pid place k at c.keep_lists.new.objects c.bind_if.new.values
+    c.change_row-kept.new.lists k.ascends kept.gone kept.potential row (slice_index_or rows place []) (s.room - 2)
+    c.keep_lists.ensures.now c.in_ok-bind_if.ensures.ok list_rows order c.change_row-kept.ensures.fits
+    c.keep_lists.ensures.marked c.bind_if.ensures.marked its_marked less c.keep_lists.ensures.room has has_lists
 
 pub returns-clause-ok : goal.returns-clause-ok
 returns-clause-ok c =
@@ -103,27 +128,42 @@ returns-clause-ok c =
     let k = c.in-Some.before in
     let at : ProcessIsAt (held_now s.contents) c.args.pid place k =
     MatchOption-at_some _ _ (place, k) c.in-Some.is c.process_at.ensures in
-    let change = c.args.change in
     let h = held_now s.contents in
+    let change = c.args.change in
     let row : ValueRow = bound_if change.value (values_at h place) in
-    let list_row : ListRow = bound_if change.bound (unbound_if change.used_up (lists_at h place)) in
-    let turned : List ListRow → List ListRow = λ rows.
-    slice_set rows place (bound_if change.bound (unbound_if change.used_up (slice_index_or rows place []))) in
-    let list_rows = c.change_row.ensures.now ∙ ap turned c.own_row.ensures.now in
+    let kept = c.change_row-kept.result in
+    let rows = c.change_row-kept.new.lists.now in
+    let list_rows =
+    c.change_row-kept.ensures.row
+    ∙ ap (λ (rs : List ListRow). slice_set rs place (slice_index_or rows place [])) c.own_row.ensures.now in
     let order : AscendsIf k.ascends row = λ known.
     bound-ascends change.value (values_at h place)
     (ascends-kept h c.self.invariant.now place c.args.pid k at.at known) in
-    let its_marked = c.change_row.ensures.marked ∙ c.own_row.ensures.marked in
+    let its_marked = c.change_row-kept.ensures.marked ∙ c.own_row.ensures.marked in
     let less : s.room - 2 ≤ s.room = omega arith in
-    let as_much : s.contents.objects.room ≤ s.contents.objects.room = omega arith in
     let has : s.room - 2 ≤ c.bind_if.new.values.room =
     omega (arith, c.bind_if.ensures.room, c.self.invariant.has_room.values) in
-    let has_lists : s.room - 2 ≤ c.change_row.new.lists.room =
-    omega (arith, c.own_row.ensures.room, c.change_row.ensures.room, c.self.invariant.has_room.its_lists) in
-    let after = record s.contents { values = c.bind_if.new.values; lists = c.change_row.new.lists } in
+    let has_lists : s.room - 2 ≤ c.change_row-kept.new.lists.room =
+    omega (arith, c.own_row.ensures.room, c.change_row-kept.ensures.room, c.self.invariant.has_room.its_lists) in
+    let after = record s.contents {
+      objects = c.keep_lists.new.objects;
+      values = c.bind_if.new.values;
+      lists = c.change_row-kept.new.lists;
+    } in
+    let held : ListRow → Process = λ its_lists.
+    record (process_held h.cells c.args.pid (values_at h place) (lists_at h place) k) {
+      values = row;
+      lists = its_lists;
+    } in
+    let turned : ListRow → ListRow = λ ls. bound_if change.bound (unbound_if change.used_up ls) in
+    let left =
+    c.change_row-kept.ensures.left
+    ∙ ap (λ (n : KeptLists). turned (drop n.gone (slice_index_or c.own_row.new.lists.now place []))) c.lists.ensures
+    ∙ ap (λ (rs : List ListRow). turned (drop k.gone (slice_index_or rs place []))) c.own_row.ensures.now in
     subst (λ (i : Indexed). Becomes i.state c.args.pid (with_list_change change) (state_of (held_now after)))
     c.self.view_is
-    (rows-become s c.self.invariant c.args.pid place k at s.contents.objects c.bind_if.new.values c.change_row.new.lists
-    k.ascends row list_row (s.room - 2) (same_slots s c.self.invariant c.args.pid place k at) c.in_ok-bind_if.ensures.ok
-    list_rows order refl c.bind_if.ensures.marked its_marked less as_much has has_lists
-    (with_list_change change) refl)
+    (rows-become s c.self.invariant c.args.pid place k at c.keep_lists.new.objects c.bind_if.new.values
+    c.change_row-kept.new.lists k.ascends kept.gone kept.potential row (slice_index_or rows place []) (s.room - 2)
+    c.keep_lists.ensures.now c.in_ok-bind_if.ensures.ok list_rows order c.change_row-kept.ensures.fits
+    c.keep_lists.ensures.marked c.bind_if.ensures.marked its_marked less c.keep_lists.ensures.room has has_lists
+    (with_list_change change) (ap held (sym left)))

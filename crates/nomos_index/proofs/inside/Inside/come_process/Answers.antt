@@ -6,7 +6,7 @@ use Rattle.nomos_parts.specs.SmallChanges.{process_born, with_object}
 use Rattle.nomos_slots.specs.Cells.{name_in}
 use Rattle.nomos_index.specs.ObjectsCome.{name_with}
 use Rattle.nomos_index.specs.Indexed.{Indexed}
-use Rattle.nomos_index.specs.Objects.{AscendsIf, ValueRow}
+use Rattle.nomos_index.specs.Objects.{AscendsIf, IsPotentialIf, ListRow, ValueRow}
 use Rattle.nomos_index.proofs.AgainLemmas.{moved-marks, moved-state, on_any_err}
 use Rattle.nomos_index.proofs.BirthLemmas.{born-indexed, born-marks, born-state}
 use Rattle.nomos_index.proofs.RowLemmas.{map-ascends}
@@ -42,17 +42,22 @@ invariant_of-self-2 c =
     ) in
     let spans = λ (w : ℕ) (some : IsSome (bound_to w born.channels.items)).
     c.span_of.ensures w
-    (subst (λ (ps : List (VarId × ℕ)). IsSome (bound_to w ps)) (sym c.deref-3.ensures.value) some) in
+    (subst (λ (ps : List (VarId × ℕ)). IsSome (bound_to w ps)) (sym c.deref-4.ensures.value) some) in
     let order : AscendsIf c.is_map-ascends.result born.values.items = λ known. map-ascends born.values.items
     (subst (λ (ps : ValueRow). bindings_of ps ≡ ps) c.deref-2.ensures.value (c.is_map-ascends.ensures known)) in
-    born-indexed s c.self.invariant born c.of-kept.result c.span_of.result c.is_map-ascends.result c.push.new.self
+    let kept = c.kept_lists-lists.result in
+    let known : IsPotentialIf kept.potential born.lists.items =
+    subst (λ (row : ListRow). IsPotentialIf kept.potential row) c.deref-3.ensures.value
+    c.kept_lists-lists.ensures.potential in
+    born-indexed s c.self.invariant born c.of-kept.result c.span_of.result c.is_map-ascends.result
+    kept c.push.new.self
     c.push-2.new.self
     c.push-3.new.self
     c.reserve_names.new.channels c.bind_pairs.new.channels c.reserve_names.ensures.names come
     c.reserve_names.ensures.marked
     c.bind_pairs.ensures.marked c.push.ensures.marked c.push-2.ensures.marked c.push-3.ensures.marked next
     c.of-kept.ensures
-    c.push.ensures.now c.push-2.ensures.now c.push-3.ensures.now spans order
+    c.push.ensures.now c.push-2.ensures.now c.push-3.ensures.now spans order c.kept_lists-lists.ensures.gone known
     (record {
       objects = omega (arith, c.push.ensures.room, c.self.invariant.has_room.objects);
       values = omega (arith, c.push-2.ensures.room, c.self.invariant.has_room.values);
@@ -72,17 +77,22 @@ returns-clause-ok c =
     let next = c.requires.number ∙ sym (ap (λ (i : Indexed). i.state.next_object) c.self.view_is) in
     let spans = λ (w : ℕ) (some : IsSome (bound_to w born.channels.items)).
     c.span_of.ensures w
-    (subst (λ (ps : List (VarId × ℕ)). IsSome (bound_to w ps)) (sym c.deref-3.ensures.value) some) in
+    (subst (λ (ps : List (VarId × ℕ)). IsSome (bound_to w ps)) (sym c.deref-4.ensures.value) some) in
     let order : AscendsIf c.is_map-ascends.result born.values.items = λ known. map-ascends born.values.items
     (subst (λ (ps : ValueRow). bindings_of ps ≡ ps) c.deref-2.ensures.value (c.is_map-ascends.ensures known)) in
-    born-state s c.self.invariant born c.of-kept.result c.span_of.result c.is_map-ascends.result c.push.new.self
+    let kept = c.kept_lists-lists.result in
+    let known : IsPotentialIf kept.potential born.lists.items =
+    subst (λ (row : ListRow). IsPotentialIf kept.potential row) c.deref-3.ensures.value
+    c.kept_lists-lists.ensures.potential in
+    born-state s c.self.invariant born c.of-kept.result c.span_of.result c.is_map-ascends.result
+    kept c.push.new.self
     c.push-2.new.self
     c.push-3.new.self
     c.reserve_names.new.channels c.bind_pairs.new.channels c.reserve_names.ensures.names come
     c.reserve_names.ensures.marked
     c.bind_pairs.ensures.marked c.push.ensures.marked c.push-2.ensures.marked c.push-3.ensures.marked next
     c.of-kept.ensures
-    c.push.ensures.now c.push-2.ensures.now c.push-3.ensures.now spans order
+    c.push.ensures.now c.push-2.ensures.now c.push-3.ensures.now spans order c.kept_lists-lists.ensures.gone known
     ∙ ap (λ (i : Indexed). with_object (object.Process (process_born born)) i.state) c.self.view_is
 
 pub returns-clause-marked : goal.returns-clause-marked
@@ -96,15 +106,20 @@ returns-clause-marked c =
     let next = c.requires.number ∙ sym (ap (λ (i : Indexed). i.state.next_object) c.self.view_is) in
     let spans = λ (w : ℕ) (some : IsSome (bound_to w born.channels.items)).
     c.span_of.ensures w
-    (subst (λ (ps : List (VarId × ℕ)). IsSome (bound_to w ps)) (sym c.deref-3.ensures.value) some) in
+    (subst (λ (ps : List (VarId × ℕ)). IsSome (bound_to w ps)) (sym c.deref-4.ensures.value) some) in
     let order : AscendsIf c.is_map-ascends.result born.values.items = λ known. map-ascends born.values.items
     (subst (λ (ps : ValueRow). bindings_of ps ≡ ps) c.deref-2.ensures.value (c.is_map-ascends.ensures known)) in
-    born-marks s c.self.invariant born c.of-kept.result c.span_of.result c.is_map-ascends.result c.push.new.self
+    let kept = c.kept_lists-lists.result in
+    let known : IsPotentialIf kept.potential born.lists.items =
+    subst (λ (row : ListRow). IsPotentialIf kept.potential row) c.deref-3.ensures.value
+    c.kept_lists-lists.ensures.potential in
+    born-marks s c.self.invariant born c.of-kept.result c.span_of.result c.is_map-ascends.result
+    kept c.push.new.self
     c.push-2.new.self
     c.push-3.new.self
     c.reserve_names.new.channels c.bind_pairs.new.channels c.reserve_names.ensures.names come
     c.reserve_names.ensures.marked
     c.bind_pairs.ensures.marked c.push.ensures.marked c.push-2.ensures.marked c.push-3.ensures.marked next
     c.of-kept.ensures
-    c.push.ensures.now c.push-2.ensures.now c.push-3.ensures.now spans order
+    c.push.ensures.now c.push-2.ensures.now c.push-3.ensures.now spans order c.kept_lists-lists.ensures.gone known
     ∙ ap (λ (i : Indexed). i.marked) c.self.view_is

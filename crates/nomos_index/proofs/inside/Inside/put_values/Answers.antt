@@ -5,7 +5,7 @@ use Rattle.nomos_parts.specs.SmallChanges.{Becomes, with_values}
 use Rattle.nomos_index.specs.Indexed.{Indexed, held_now, state_of}
 use Rattle.nomos_index.specs.Looked.{ProcessIsAt, lists_at}
 use Rattle.nomos_index.specs.Objects.{AscendsIf, ValueRow}
-use Rattle.nomos_index.proofs.ChangingLemmas.{rows-become, rows-indexed, same_lists}
+use Rattle.nomos_index.proofs.ChangingLemmas.{own_rows, rows-become, rows-indexed, same_lists}
 use Rattle.nomos_index.proofs.RowLemmas.{map-ascends}
 use Rattle.nomos_index.proofs.inside.Inside.put_values.Goals as goal
 
@@ -34,9 +34,10 @@ invariant_of-self c =
     omega (arith, c.replace-before.ensures.room, c.self.invariant.has_room.values) in
     let has_lists : s.room - 1 ≤ s.contents.lists.room = omega (arith, c.self.invariant.has_room.its_lists) in
     rows-indexed s c.self.invariant c.args.pid place k at c.keep_order.new.objects c.replace-before.new.self
-    s.contents.lists ascends c.args.values.items (lists_at (held_now s.contents) place) (s.room - 1)
+    s.contents.lists ascends k.gone k.potential c.args.values.items (lists_at (held_now s.contents) place) (s.room - 1)
     c.keep_order.ensures.now c.replace-before.ensures.now (same_lists s c.self.invariant c.args.pid place k at) order
-    c.keep_order.ensures.marked c.replace-before.ensures.marked refl less c.keep_order.ensures.room has has_lists
+    (own_rows s c.self.invariant c.args.pid place k at).1 c.keep_order.ensures.marked c.replace-before.ensures.marked
+    refl less c.keep_order.ensures.room has has_lists
 
 pub returns-clause-state : goal.returns-clause-state
 returns-clause-state c =
@@ -57,7 +58,8 @@ returns-clause-state c =
     subst (λ (i : Indexed). Becomes i.state c.args.pid (with_values c.args.values.items) (state_of (held_now after)))
     c.self.view_is
     (rows-become s c.self.invariant c.args.pid place k at c.keep_order.new.objects c.replace-before.new.self
-    s.contents.lists ascends c.args.values.items (lists_at (held_now s.contents) place) (s.room - 1)
+    s.contents.lists ascends k.gone k.potential c.args.values.items (lists_at (held_now s.contents) place) (s.room - 1)
     c.keep_order.ensures.now c.replace-before.ensures.now (same_lists s c.self.invariant c.args.pid place k at) order
-    c.keep_order.ensures.marked c.replace-before.ensures.marked refl less c.keep_order.ensures.room has has_lists
+    (own_rows s c.self.invariant c.args.pid place k at).1 c.keep_order.ensures.marked c.replace-before.ensures.marked
+    refl less c.keep_order.ensures.room has has_lists
     (with_values c.args.values.items) refl)
