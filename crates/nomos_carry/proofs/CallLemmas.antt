@@ -3,12 +3,12 @@ use Rattle.std.proofs.Common.{◌≡◌, ◌≢◌, ◌∙◌, ◌<◌, ◌⊎�
 use Rattle.std.specs.Prelude.{IfSome, IsSome, codes}
 use Rattle.nomos_accept.specs.AcceptedText.{IsAcceptedAs, IsRefused}
 use Rattle.nomos_accept.specs.declared.why.Why.TheVariants as why
-use Rattle.nomos_due.proofs.SourceLemmas.{some_text}
-use Rattle.nomos_due.specs.DueLines.{read_fault_line}
-use Rattle.nomos_due.specs.Outside.{FaultCounts, HasText, HaveRisen, Input, SinkState, SourceState, source_state}
-use Rattle.nomos_due.specs.Sources.{kept_text}
-use Rattle.nomos_due.specs.Written.{HasWrittenOut}
-use Rattle.nomos_due.specs.declared.due.Due.{Due}
+use Rattle.nomos_answers.proofs.SourceLemmas.{some_text}
+use Rattle.nomos_answers.specs.DueLines.{read_fault_line}
+use Rattle.nomos_answers.specs.Outside.{FaultCounts, HasText, HaveRisen, Input, SinkState, SourceState, source_state}
+use Rattle.nomos_answers.specs.Sources.{kept_text}
+use Rattle.nomos_answers.specs.Written.{HasWrittenOut}
+use Rattle.nomos_answers.specs.declared.due.Due.{Due}
 use Rattle.nomos_ir.specs.Limits.{text_limit}
 use Rattle.nomos_top.specs.Call.{EndsOn, EndsWithoutMemory, EndsWritten, inputs_of}
 use Rattle.nomos_top.specs.Outcome as outcome

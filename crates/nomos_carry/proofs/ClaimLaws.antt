@@ -1,9 +1,9 @@
 -- All that is claimed of a call follows from how it ended.
 use Rattle.std.proofs.Common.{◌≡◌, ◌≢◌, inl, inr, ℕ, List, Option, Some, None, sym, subst, arith}
 use Rattle.nomos_accept.specs.AcceptedText.{IsAcceptedAs}
-use Rattle.nomos_due.specs.Outside.{Input}
-use Rattle.nomos_due.specs.RunsDue.{HasRunFrom, usual_orders}
-use Rattle.nomos_due.specs.Written.{with_text}
+use Rattle.nomos_answers.specs.Outside.{Input}
+use Rattle.nomos_answers.specs.RunsDue.{HasRunFrom, usual_orders}
+use Rattle.nomos_answers.specs.Written.{with_text}
 use Rattle.nomos_legal.specs.Ledger.{LedgerState, empty_ledger}
 use Rattle.nomos_snapshot.specs.Text.{snapshot_text}
 use Rattle.nomos_top.specs.Headline.{GoesRightTo}

@@ -1,7 +1,7 @@
 -- Two calls of the same words on the same texts end alike, unless reading, writing or memory fails in one of them.
 use Rattle.std.proofs.Common.{◌≡◌, ◌∙◌, ◌⊎◌, inl, inr, ℕ, List, Option, Some, None, refl, sym, subst}
-use Rattle.nomos_due.specs.Outside.{Input}
-use Rattle.nomos_due.specs.Written.{with_text}
+use Rattle.nomos_answers.specs.Outside.{Input}
+use Rattle.nomos_answers.specs.Written.{with_text}
 use Rattle.nomos_types.specs.Acceptance.{Acceptance, IsAccepted}
 use Rattle.nomos_carry.specs.CarryCall as call
 use Rattle.nomos_carry.specs.CarryCall.{CarryCall, CarryEndsOn, CarryTexts, IsCallDue, IsDueOnAccepted, carry_inputs, snapshot_if}

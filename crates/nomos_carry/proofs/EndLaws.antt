@@ -4,13 +4,13 @@ use Rattle.std.specs.List.{list_all}
 use Rattle.std.specs.Prelude.{IsSome, if◌then◌else◌}
 use Rattle.nomos_accept.specs.AcceptedText.{IsAcceptedAs}
 use Rattle.nomos_base.specs.Sink.{with_end}
-use Rattle.nomos_due.specs.DueLines as lines
-use Rattle.nomos_due.specs.DueLines.{IsNoScript}
-use Rattle.nomos_due.specs.Outside.{Input, SinkState}
-use Rattle.nomos_due.specs.Resumes as resumes
-use Rattle.nomos_due.specs.Resumes.{IsNoLedger}
-use Rattle.nomos_due.specs.Written as writing
-use Rattle.nomos_due.specs.Written.{HasWrittenOut, with_text}
+use Rattle.nomos_answers.specs.DueLines as lines
+use Rattle.nomos_answers.specs.DueLines.{IsNoScript}
+use Rattle.nomos_answers.specs.Outside.{Input, SinkState}
+use Rattle.nomos_answers.specs.Resumes as resumes
+use Rattle.nomos_answers.specs.Resumes.{IsNoLedger}
+use Rattle.nomos_answers.specs.Written as writing
+use Rattle.nomos_answers.specs.Written.{HasWrittenOut, with_text}
 use Rattle.nomos_legal.specs.Ledger.{LedgerState}
 use Rattle.nomos_legal.specs.Passage.{Passage}
 use Rattle.nomos_legal.specs.declared.journal.Entry.{Entry}

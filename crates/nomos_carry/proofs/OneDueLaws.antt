@@ -1,13 +1,13 @@
 -- On an accepted contract, with one snapshot and one script, one thing is due, unless a source failed.
 use Rattle.std.proofs.Common.{◌≡◌, ◌∙◌, ◌⊎◌, inl, inr, ℕ, List, ◌++◌, length, Option, Some, None, Result, Ok, Err, refl, sym, ap, subst, arith}
 use Rattle.std.specs.Prelude.{codes, decimal}
-use Rattle.nomos_due.specs.DueLines as lines
-use Rattle.nomos_due.specs.DueLines.{IsNoScript, script_refusal}
-use Rattle.nomos_due.specs.Outside.{Input}
-use Rattle.nomos_due.specs.Resumes as resumes
-use Rattle.nomos_due.specs.Resumes.{IsNoLedger}
-use Rattle.nomos_due.specs.RunsDue.{HasRunFrom, usual_orders}
-use Rattle.nomos_due.specs.SnapshotLines.{unloaded_line, unsaved_line}
+use Rattle.nomos_answers.specs.DueLines as lines
+use Rattle.nomos_answers.specs.DueLines.{IsNoScript, script_refusal}
+use Rattle.nomos_answers.specs.Outside.{Input}
+use Rattle.nomos_answers.specs.Resumes as resumes
+use Rattle.nomos_answers.specs.Resumes.{IsNoLedger}
+use Rattle.nomos_answers.specs.RunsDue.{HasRunFrom, usual_orders}
+use Rattle.nomos_answers.specs.SnapshotLines.{unloaded_line, unsaved_line}
 use Rattle.nomos_legal.proofs.OneJournalLaws.{follows-one_journal}
 use Rattle.nomos_legal.specs.Ledger.{LedgerState}
 use Rattle.nomos_legal.specs.Passage.{Passage}

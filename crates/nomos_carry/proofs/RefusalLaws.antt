@@ -3,7 +3,7 @@ use Rattle.std.proofs.Common.{◌≡◌, ◌∙◌, ◌⊎◌, inl, inr, ℕ, Li
 use Rattle.nomos_accept.specs.AcceptedText.{Answers, IsAcceptedAs, IsCauseOf, PivotRunEndsWith, found_amounts}
 use Rattle.nomos_accept.specs.declared.why.AcceptError.{AcceptError}
 use Rattle.nomos_accept.specs.declared.why.AcceptError.TheVariants as error
-use Rattle.nomos_due.specs.Outside.{Input}
+use Rattle.nomos_answers.specs.Outside.{Input}
 use Rattle.nomos_ir.specs.declared.lists.ProgramLists.{ProgramLists}
 use Rattle.nomos_simplex.specs.declared.solved.Solved.TheVariants as solved
 use Rattle.nomos_simplex.specs.declared.solved.Stop.{Stop}

@@ -2,8 +2,8 @@
 use Rattle.std.proofs.Common.{◌≡◌, ◌∙◌, ◌≤◌, ◌<◌, ◌/◌, inl, inr, ℕ, List, Option, Some, Result, Ok, Err, refl, sym, ap, subst, arith}
 use Rattle.std.proofs.Math.Nat.{mul-div_cancel}
 use Rattle.std.proofs.lemmas.Bool.{cases_lt}
-use Rattle.nomos_due.specs.Outside.{Input}
-use Rattle.nomos_due.specs.SnapshotLines.{unloaded_line, unsaved_line}
+use Rattle.nomos_answers.specs.Outside.{Input}
+use Rattle.nomos_answers.specs.SnapshotLines.{unloaded_line, unsaved_line}
 use Rattle.nomos_legal.specs.Ledger.{LedgerState}
 use Rattle.nomos_legal.specs.StandsFor.{StandsFor}
 use Rattle.nomos_machine.specs.Run.{IsNextReady}

@@ -3,11 +3,11 @@
 use Rattle.std.proofs.Common.{◌≡◌, inl, ℕ, List, [], ◌∷◌, Some, None, Ok, refl, subst, arith}
 use Rattle.std.specs.Prelude.{codes}
 use Rattle.nomos_accept.specs.AcceptedText.{IsAcceptedAs}
-use Rattle.nomos_due.specs.Outside.{sink_state, source_state}
-use Rattle.nomos_due.specs.Resumes as resumes
-use Rattle.nomos_due.specs.RunsDue.{HasRunFrom, usual_orders}
-use Rattle.nomos_due.specs.Saves as saves
-use Rattle.nomos_due.specs.Written as writing
+use Rattle.nomos_answers.specs.Outside.{sink_state, source_state}
+use Rattle.nomos_answers.specs.Resumes as resumes
+use Rattle.nomos_answers.specs.RunsDue.{HasRunFrom, usual_orders}
+use Rattle.nomos_answers.specs.Saves as saves
+use Rattle.nomos_answers.specs.Written as writing
 use Rattle.nomos_legal.specs.Ledger.{LedgerState, empty_ledger}
 use Rattle.nomos_legal.specs.Passage.{Passage}
 use Rattle.nomos_legal.specs.StandsFor.{StandsFor}

@@ -1,8 +1,8 @@
 -- One call of `nomos-carry`, as it is seen from outside, and how it ends.
 use Rattle.std.specs.Prelude.{◌≡◌, ◌⊎◌, ℕ, List, Option, Some, None}
 use Rattle.nomos_accept.specs.AcceptedText.{IsAcceptedAs}
-use Rattle.nomos_due.specs.Outside.{HasText, Input, SinkState, SourceState, input_of}
-use Rattle.nomos_due.specs.Written.{HasWrittenOut}
+use Rattle.nomos_answers.specs.Outside.{HasText, Input, SinkState, SourceState, input_of}
+use Rattle.nomos_answers.specs.Written.{HasWrittenOut}
 use Rattle.nomos_top.specs.Outcome.{IsUnaccepted}
 use Rattle.nomos_types.specs.Acceptance.{Acceptance, IsAccepted}
 use Rattle.nomos_words.specs.Words.{check}

@@ -3,7 +3,7 @@ use Rattle.std.specs.Prelude.{◌≡◌, ◌≢◌, ◌⊎◌, ℕ, List, Option
 use Rattle.nomos_accept.specs.AcceptedText.{IsAcceptedAs}
 use Rattle.nomos_accept.specs.TypedText.{IsTypedAs}
 use Rattle.nomos_base.specs.Sink.{with_end}
-use Rattle.nomos_due.specs.Written.{with_text}
+use Rattle.nomos_answers.specs.Written.{with_text}
 use Rattle.nomos_legal.specs.Ledger.{LedgerState}
 use Rattle.nomos_legal.specs.Passage.{Passage}
 use Rattle.nomos_legal.specs.declared.journal.Journal.{Journal}

@@ -2,8 +2,8 @@
 
 ghost use Rattle.std.specs.Prelude.{◌≡◌, ◌⊎◌, ◌∷◌, ◌↔◌, [], ℕ, List, None, Err, IfOk, IfSome, IsSome, IsTrue, codes, map, string_bytes};
 ghost use Rattle.nomos_accept.specs.AcceptedText.{Answers};
-ghost use Rattle.nomos_due.specs.Outside.{SinkState, sink_state, source_state};
-ghost use Rattle.nomos_due.specs.Written.{HasWrittenOut};
+ghost use Rattle.nomos_answers.specs.Outside.{SinkState, sink_state, source_state};
+ghost use Rattle.nomos_answers.specs.Written.{HasWrittenOut};
 ghost use Rattle.nomos_types.specs.Acceptance.{IsAccepted};
 ghost use Rattle.nomos_words.specs.Options.{IsFileWord};
 ghost use Rattle.nomos_carry.specs.Alone.{LeavesAlone};
@@ -14,14 +14,14 @@ ghost use Rattle.nomos_carry.specs.mirror.Errands.{AloneFor, Behind, Ends, IsDue
 use crate::errands::{Errand, errand_of};
 use nomos_accept::accepting::accept;
 use nomos_accept::why::AcceptError;
+use nomos_answers::due::Due;
+use nomos_answers::written::write_due;
 use nomos_base::{ReadError, Sink, Source, SureSource, read_all, write_all};
 use nomos_carrying::carrying::{begin_due, carry_due};
 use nomos_carrying::numbering::numbers_due;
 use nomos_carrying::renumbering::renumber_due;
-use nomos_due::due::Due;
-use nomos_due::written::write_due;
 use nomos_ir::limits::TEXT_LIMIT;
-use nomos_named::indexed::IndexedState;
+use nomos_state::indexed::IndexedState;
 use nomos_top::nomos_by_one;
 use nomos_types::accepted::Accepted;
 use std::alloc::{AllocError, Global};

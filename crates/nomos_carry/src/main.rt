@@ -5,7 +5,7 @@ mod carry;
 mod errands;
 
 ghost use Rattle.std.specs.Prelude.{map, string_bytes};
-ghost use Rattle.nomos_due.specs.Outside.{sink_state, source_state};
+ghost use Rattle.nomos_answers.specs.Outside.{sink_state, source_state};
 ghost use Rattle.nomos_carry.specs.Alone.{LeavesAlone};
 ghost use Rattle.nomos_carry.specs.CarryClaims.{CarryClaims};
 ghost use Rattle.nomos_carry.specs.CarryWords.{Names, contract_file, new_file, script_file, snapshot_file};
@@ -13,21 +13,9 @@ ghost use Rattle.nomos_carry.specs.CarryWords.{Names, contract_file, new_file, s
 use crate::carry::{Edges, carry};
 use crate::errands::file_words;
 use nomos_base::{Sink, Source};
-use nomos_files::{FileSource, OutputSink, OverFile};
-use std::alloc::{AllocError, AllocGlobal, Global};
-use std::env::Env;
-use std::io::ErrorKind;
+use nomos_files::{FileSource, OutputSink, OverFile, own_words};
+use std::alloc::{AllocGlobal, Global};
 use std::process::ExitCode;
-
-// The words after the program's own name. Where one of them is no text, they have no form, and so has
-// the empty list that is given then.
-fn own_words<R: Env + AllocGlobal>(rt: &R) -> Result<Vec<String>, AllocError> {
-    match std::env::args(rt) {
-        Ok(words) => words.skip(1).collect(rt.alloc()),
-        Err(error) if error.kind() == ErrorKind::InvalidData => Ok(Vec::new(rt.alloc())),
-        Err(_) => Err(AllocError),
-    }
-}
 
 fn main(rt: HostRuntime) -> ExitCode {
     let Ok(words) = own_words(&rt) else {

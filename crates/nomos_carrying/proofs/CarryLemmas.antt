@@ -1,15 +1,15 @@
 -- What is due where a ledger is carried on, from its parts.
 use Rattle.std.proofs.Common.{◌≡◌, ℕ, List, length, Option, Some, None, Ok, refl, subst}
 use Rattle.std.specs.Prelude.{IfSome}
-use Rattle.nomos_due.specs.Finding.{HasNoLedger, IsNoLedgerOf, SavesWhole, saved, unsaved}
-use Rattle.nomos_due.specs.Outside.{HasText, Input, SourceState, input_of}
-use Rattle.nomos_due.specs.RunsDue.{usual_orders}
-use Rattle.nomos_due.specs.Saves as saves
-use Rattle.nomos_due.specs.Saves.{IsSaveDue}
-use Rattle.nomos_due.specs.Sources.{IsSaveDueFor, kept_text}
-use Rattle.nomos_due.specs.declared.due.Due.{Due}
-use Rattle.nomos_due.specs.declared.resumes.NoLedger.{NoLedger}
-use Rattle.nomos_due.proofs.SourceLemmas.{some_text}
+use Rattle.nomos_answers.specs.Finding.{HasNoLedger, IsNoLedgerOf, SavesWhole, saved, unsaved}
+use Rattle.nomos_answers.specs.Outside.{HasText, Input, SourceState, input_of}
+use Rattle.nomos_answers.specs.RunsDue.{usual_orders}
+use Rattle.nomos_answers.specs.Saves as saves
+use Rattle.nomos_answers.specs.Saves.{IsSaveDue}
+use Rattle.nomos_answers.specs.Sources.{IsSaveDueFor, kept_text}
+use Rattle.nomos_answers.specs.declared.due.Due.{Due}
+use Rattle.nomos_answers.specs.declared.resumes.NoLedger.{NoLedger}
+use Rattle.nomos_answers.proofs.SourceLemmas.{some_text}
 use Rattle.nomos_legal.specs.Ledger.{LedgerState, empty_ledger}
 use Rattle.nomos_legal.specs.StandsFor.{StandsFor}
 use Rattle.nomos_legal.specs.declared.journal.Journal.{Journal}

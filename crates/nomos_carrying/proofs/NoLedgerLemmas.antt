@@ -2,14 +2,14 @@
 use Rattle.std.proofs.Common.{◌≡◌, ◌∙◌, ◌++◌, ℕ, List, Option, Some, None, Result, Ok, Err, ap, subst, sym}
 use Rattle.std.specs.Prelude.{IfOk, IfSome, codes}
 use Rattle.std.specs.Result.{result_ok}
-use Rattle.nomos_due.specs.Finding.{HasNoLedger, IsNoLedgerOf}
-use Rattle.nomos_due.specs.Outside.{HasText, Input, SourceState, input_of}
-use Rattle.nomos_due.specs.Resumes.{IsNoLedger}
-use Rattle.nomos_due.specs.Resumes as resumes
-use Rattle.nomos_due.specs.Sources.{kept_text}
-use Rattle.nomos_due.specs.declared.due.Due.{Due}
-use Rattle.nomos_due.specs.declared.resumes.NoLedger.{NoLedger}
-use Rattle.nomos_due.specs.declared.resumes.NoLedger.TheVariants as no_ledger
+use Rattle.nomos_answers.specs.Finding.{HasNoLedger, IsNoLedgerOf}
+use Rattle.nomos_answers.specs.Outside.{HasText, Input, SourceState, input_of}
+use Rattle.nomos_answers.specs.Resumes.{IsNoLedger}
+use Rattle.nomos_answers.specs.Resumes as resumes
+use Rattle.nomos_answers.specs.Sources.{kept_text}
+use Rattle.nomos_answers.specs.declared.due.Due.{Due}
+use Rattle.nomos_answers.specs.declared.resumes.NoLedger.{NoLedger}
+use Rattle.nomos_answers.specs.declared.resumes.NoLedger.TheVariants as no_ledger
 use Rattle.nomos_legal.specs.Ledger.{LedgerState}
 use Rattle.nomos_report.specs.ReportLines.{line}
 use Rattle.nomos_snapshot.specs.Loading.{Loads}

@@ -5,12 +5,12 @@ use Rattle.std.proofs.Math.Nat.{mul-div_cancel}
 use Rattle.std.proofs.lemmas.List.{length-map}
 use Rattle.std.proofs.lemmas.List.Elements.{All-contains, All-map}
 use Rattle.std.proofs.lemmas.Map.Views.{length-le_from_below}
-use Rattle.nomos_due.specs.Finding.{HasNoLedger, IsBare}
-use Rattle.nomos_due.specs.Outside.{Input}
-use Rattle.nomos_due.specs.Resumes as resumes
-use Rattle.nomos_due.specs.SnapshotLines.{unloaded_line, unsaved_line}
-use Rattle.nomos_due.specs.declared.due.Due.{Due}
-use Rattle.nomos_due.specs.declared.resumes.NoLedger.TheVariants as no_ledger
+use Rattle.nomos_answers.specs.Finding.{HasNoLedger, IsBare}
+use Rattle.nomos_answers.specs.Outside.{Input}
+use Rattle.nomos_answers.specs.Resumes as resumes
+use Rattle.nomos_answers.specs.SnapshotLines.{unloaded_line, unsaved_line}
+use Rattle.nomos_answers.specs.declared.due.Due.{Due}
+use Rattle.nomos_answers.specs.declared.resumes.NoLedger.TheVariants as no_ledger
 use Rattle.nomos_ir.specs.declared.ids.TypeId.{TypeId}
 use Rattle.nomos_legal.specs.Ledger.{AreNamed, LedgerState}
 use Rattle.nomos_legal.specs.StandsFor.{StandsFor}

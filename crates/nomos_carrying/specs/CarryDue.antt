@@ -1,10 +1,10 @@
 -- What is due where a ledger is carried on: from the ledger of a snapshot, by a script, to the next snapshot.
 use Rattle.std.specs.Prelude.{◌≡◌, ◌⊎◌, ◌≤◌, ◌^◌, ℕ, List, ◌++◌, Option, Some, None, Ok, Err, codes, decimal}
-use Rattle.nomos_due.specs.DueLines.{IsNoScript}
-use Rattle.nomos_due.specs.Outside.{Input}
-use Rattle.nomos_due.specs.Resumes.{IsNoLedger}
-use Rattle.nomos_due.specs.RunsDue.{HasRunFrom, usual_orders}
-use Rattle.nomos_due.specs.SnapshotLines.{unsaved_line}
+use Rattle.nomos_answers.specs.DueLines.{IsNoScript}
+use Rattle.nomos_answers.specs.Outside.{Input}
+use Rattle.nomos_answers.specs.Resumes.{IsNoLedger}
+use Rattle.nomos_answers.specs.RunsDue.{HasRunFrom, usual_orders}
+use Rattle.nomos_answers.specs.SnapshotLines.{unsaved_line}
 use Rattle.nomos_legal.specs.Ledger.{LedgerState, empty_ledger}
 use Rattle.nomos_legal.specs.Passage.{Passage}
 use Rattle.nomos_legal.specs.StandsFor.{StandsFor}

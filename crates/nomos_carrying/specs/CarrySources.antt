@@ -1,8 +1,8 @@
 -- What is due for what sources have left: for the texts that they tell, or for some texts where they do not tell.
 use Rattle.std.specs.Prelude.{◌≡◌, List, ℕ, Some, None}
-use Rattle.nomos_due.specs.Outside.{HasText, SourceState, input_of}
-use Rattle.nomos_due.specs.Sources.{kept_text}
-use Rattle.nomos_due.specs.declared.due.Due.{Due}
+use Rattle.nomos_answers.specs.Outside.{HasText, SourceState, input_of}
+use Rattle.nomos_answers.specs.Sources.{kept_text}
+use Rattle.nomos_answers.specs.declared.due.Due.{Due}
 use Rattle.nomos_types.specs.Acceptance.{Acceptance}
 use Rattle.nomos_carrying.specs.CarryDue.{IsCarryDue, IsNumbersDue}
 use Rattle.nomos_carrying.specs.Renumbered.{IsRenumberDue}

@@ -1,9 +1,9 @@
 -- Ledgers whose objects and names are numbered anew, in the same order.
 use Rattle.std.specs.Prelude.{◌≡◌, ◌<◌, ℕ, ◌+◌, List, map, length, slice_index, Option, Some, None, Ok, Err}
 use Rattle.std.specs.Option.{option_map}
-use Rattle.nomos_due.specs.Outside.{Input}
-use Rattle.nomos_due.specs.Resumes.{IsNoLedger}
-use Rattle.nomos_due.specs.SnapshotLines.{unloaded_line, unsaved_line}
+use Rattle.nomos_answers.specs.Outside.{Input}
+use Rattle.nomos_answers.specs.Resumes.{IsNoLedger}
+use Rattle.nomos_answers.specs.SnapshotLines.{unloaded_line, unsaved_line}
 use Rattle.nomos_ir.specs.Bindings.{each_bound}
 use Rattle.nomos_legal.specs.Ledger.{LedgerState}
 use Rattle.nomos_legal.specs.StandsFor.{StandsFor}

@@ -1,20 +1,20 @@
 //! What is due where a ledger is carried on.
 
 ghost use Rattle.std.specs.Prelude.{◌≡◌, ℕ, List, Ok, Some, IfOk, IfSome};
-ghost use Rattle.nomos_due.specs.Finding.{MayGoOn};
-ghost use Rattle.nomos_due.specs.Outside.{source_state};
+ghost use Rattle.nomos_answers.specs.Finding.{MayGoOn};
+ghost use Rattle.nomos_answers.specs.Outside.{source_state};
 ghost use Rattle.nomos_legal.specs.Ledger.{LedgerState};
 ghost use Rattle.nomos_snapshot.specs.Loading.{Loads};
 ghost use Rattle.nomos_carrying.specs.CarrySources.{IsBeginDueFor, IsCarryDueFor};
 ghost use Rattle.nomos_carrying.specs.mirror.Carrying.{GoesOnBy, RunsOn};
 
+use nomos_answers::due::Due;
+use nomos_answers::resumes::{no_ledger_due, read_ledger};
+use nomos_answers::runs::usual_orders;
+use nomos_answers::saves::{save_due, saved_due};
+use nomos_answers::script_found::{no_script_due, read_script};
 use nomos_base::Source;
 use nomos_contents::contents::Contents;
-use nomos_due::due::Due;
-use nomos_due::resumes::{no_ledger_due, read_ledger};
-use nomos_due::runs::usual_orders;
-use nomos_due::saves::{save_due, saved_due};
-use nomos_due::script_found::{no_script_due, read_script};
 use nomos_ir::limits::USUAL_LIMIT;
 use nomos_ledger::ledger::Ledger;
 use nomos_legal::journal::Journal;

@@ -1,19 +1,19 @@
 //! The next numbers of a ledger, and whether they are to be made small again.
 
 ghost use Rattle.std.specs.Prelude.{◌≡◌, ◌↔◌, ◌++◌, IfOk, IfSome, IsTrue, None, codes};
-ghost use Rattle.nomos_due.specs.Outside.{source_state};
+ghost use Rattle.nomos_answers.specs.Outside.{source_state};
 ghost use Rattle.nomos_report.specs.ReportLines.{line};
 ghost use Rattle.nomos_carrying.specs.CarryDue.{IsRenumberingDue, TellsNumbers, next_numbers};
 ghost use Rattle.nomos_carrying.specs.CarrySources.{IsNumbersDueFor};
 ghost use Rattle.nomos_carrying.specs.mirror.Renumbering.{TellsNextOf};
 
+use nomos_answers::due::{Due, bare_due};
+use nomos_answers::resumes::{no_ledger_due, read_ledger};
 use nomos_base::Source;
 use nomos_contents::contents::Contents;
-use nomos_due::due::{Due, bare_due};
-use nomos_due::resumes::{no_ledger_due, read_ledger};
 use nomos_ir::limits::USUAL_LIMIT;
 use nomos_ledger::ledger::Ledger;
-use nomos_texts::number::push_number;
+use nomos_printing::number::push_number;
 use nomos_types::accepted::Accepted;
 use std::alloc::{AllocError, Global};
 

@@ -1,9 +1,9 @@
 //! What is due where a saved ledger is renumbered.
 
 ghost use Rattle.std.specs.Prelude.{◌≢◌, IfErr, IfOk, IfSome, Some};
-ghost use Rattle.nomos_due.specs.Finding.{IsBare};
-ghost use Rattle.nomos_due.specs.Outside.{FaultCounts, source_state};
-ghost use Rattle.nomos_due.specs.SnapshotLines.{unsaved_line};
+ghost use Rattle.nomos_answers.specs.Finding.{IsBare};
+ghost use Rattle.nomos_answers.specs.Outside.{FaultCounts, source_state};
+ghost use Rattle.nomos_answers.specs.SnapshotLines.{unsaved_line};
 ghost use Rattle.nomos_legal.specs.Ledger.{AreNamed};
 ghost use Rattle.nomos_legal.specs.StandsFor.{StandsFor};
 ghost use Rattle.nomos_snapshot.specs.ToldLines.{AreSorted, parts_ledger};
@@ -14,11 +14,11 @@ ghost use Rattle.nomos_carrying.specs.mirror.Renumbering.{FindsText, HasParts, H
 
 use crate::dense::dense_parts;
 use crate::numbering::told_numbers;
+use nomos_answers::due::{Due, bare_due};
+use nomos_answers::resumes::{NoLedger, no_ledger_due};
+use nomos_answers::snapshot_lines::unsaved_line;
 use nomos_base::{ReadError, Source, read_all};
 use nomos_contents::contents::Contents;
-use nomos_due::due::{Due, bare_due};
-use nomos_due::resumes::{NoLedger, no_ledger_due};
-use nomos_due::snapshot_lines::unsaved_line;
 use nomos_ir::limits::USUAL_LIMIT;
 use nomos_ledger::ledger::Ledger;
 use nomos_snapshot::error::{LoadError, SaveError};

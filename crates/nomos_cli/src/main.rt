@@ -5,18 +5,16 @@ mod file_words;
 
 ghost use Rattle.std.specs.Prelude.{map, string_bytes};
 ghost use Rattle.nomos_cli.specs.FileWords.{Names, contract_file, kept_file, script_file, third_file};
-ghost use Rattle.nomos_due.specs.Outside.{sink_state, source_state};
+ghost use Rattle.nomos_answers.specs.Outside.{sink_state, source_state};
 ghost use Rattle.nomos_top.specs.Claims.{Claims};
 ghost use Rattle.nomos_top.specs.Turns.{Untouched};
 
 use crate::file_words::file_words;
 use nomos_base::{Sink, Source};
-use nomos_files::{FileSource, OutputSink, OverFile};
+use nomos_files::{FileSource, OutputSink, OverFile, own_words};
 use nomos_top::{Ended, may_wait, nomos, nomos_by_one};
 use nomos_workers::gate::OpenGate;
-use std::alloc::{AllocError, AllocGlobal};
-use std::env::Env;
-use std::io::ErrorKind;
+use std::alloc::AllocGlobal;
 use std::process::ExitCode;
 use std::sync::Wait;
 use std::thread::Threads;
@@ -46,16 +44,6 @@ fn main(rt: HostRuntime) -> ExitCode {
     };
     let ended = call(&rt, &words, &mut outside);
     ExitCode::from(ended.status)
-}
-
-// The words after the program's own name. Where one of them is no text, they have no form, and so has
-// the empty list that is given then.
-fn own_words<R: Env + AllocGlobal>(rt: &R) -> Result<Vec<String>, AllocError> {
-    match std::env::args(rt) {
-        Ok(words) => words.skip(1).collect(rt.alloc()),
-        Err(error) if error.kind() == ErrorKind::InvalidData => Ok(Vec::new(rt.alloc())),
-        Err(_) => Err(AllocError),
-    }
 }
 
 // Does what the words say, over the files that they name, by a call that is proved to return wherever the words ask

@@ -30,14 +30,6 @@ pub record IsSilentSoFar (lists : ProgramLists) (start : TypeId) (visits : Visit
   pub passed : (i at : ℕ) (from : Option Arrival) → i < next → slice_get visits i ≡ Some (at, from)
       → IsSilent lists visits at
 
-pub silent-begins : (lists : ProgramLists) (start : TypeId) (s n : Visits) → s ≡ [] → MeetsType lists s start None n
-    → IsSilentSoFar lists start n 0
-silent-begins lists start s n empty met = record {
-  reached = reached-begins lists start s n empty met;
-  begun = begins-visited lists start s n met;
-  passed = λ i at from below there. absurd (omega (arith, below));
-}
-
 -- one visit further
 pub silent-more : (lists : ProgramLists) (start : TypeId) (at : ℕ) (m : TypeNode) (s n : Visits) (next : ℕ)
     (from : Option Arrival) → IsSilentSoFar lists start s next → slice_get s next ≡ Some (at, from)

@@ -9,7 +9,7 @@ use Rattle.nomos_eval.specs.declared.pending.Pending.{Pending}
 use Rattle.nomos_eval.specs.declared.pending.Pending.TheVariants as act
 use Rattle.nomos_eval.specs.declared.around.Around.{Around}
 use Rattle.nomos_eval.specs.declared.datum.Datum.{Datum}
-use Rattle.nomos_eval.specs.mirror.Around.{Rises}
+use Rattle.nomos_eval.specs.mirror.Ascending.{Rises}
 use Rattle.nomos_eval.specs.mirror.Begin.{IsBegun}
 
 -- nothing follows

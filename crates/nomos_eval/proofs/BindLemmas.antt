@@ -108,7 +108,9 @@ bound-zip names (suc k) ds others =
     ∙ bound-zip names k (below_top ds) (top_datum ds ∷ others)
     ∙ ap (zip names) (sym (append_assoc (arguments_at k (below_top ds)) (top_datum ds ∷ []) others))
 
-bound-whole : (names : List VarId) (k : ℕ) (ds : List Datum) → bound_on k names ds [] ≡ zip names (arguments_at k ds)
+-- all of them are the pairs of parameters and arguments
+pub bound-whole : (names : List VarId) (k : ℕ) (ds : List Datum)
+    → bound_on k names ds [] ≡ zip names (arguments_at k ds)
 bound-whole names k ds =
     ap (bound_on k names ds) (sym (zip-nil (drop k names))) ∙ bound-zip names k ds []
     ∙ ap (zip names) (append-nil (arguments_at k ds))

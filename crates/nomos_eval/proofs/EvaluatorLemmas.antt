@@ -24,7 +24,8 @@ use Rattle.nomos_eval.specs.mirror.Evaluator.{held, scopes_held, values_found, l
 use Rattle.nomos_eval.specs.mirror.Rest.{rest, seen_in, variables_at, work, ScopeIn, argument_acts}
 use Rattle.nomos_eval.specs.mirror.EvalTable.{datum_value, reach}
 use Rattle.nomos_eval.specs.declared.around.Around.{Around}
-use Rattle.nomos_eval.specs.mirror.Around.{Rises, IsLookedUp}
+use Rattle.nomos_eval.specs.mirror.Around.{IsLookedUp}
+use Rattle.nomos_eval.specs.mirror.Ascending.{Rises}
 use Rattle.nomos_eval.proofs.ListLemmas.{datum-more}
 use Rattle.nomos_eval.proofs.RestLemmas.{leaves-arguments}
 

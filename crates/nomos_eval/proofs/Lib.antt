@@ -1,7 +1,9 @@
 pub mod ActLemmas
 pub mod AroundLemmas
+pub mod AscendingLemmas
 pub mod BeginLemmas
 pub mod BindLemmas
+pub mod CallLemmas
 pub mod ListLemmas
 pub mod LoadLemmas
 pub mod EvaluatorLemmas

@@ -19,6 +19,7 @@ binding-more : (scopes more : List (List (VarId × Datum))) (c : Binding) → Is
 binding-more scopes more binding.Nothing before = refl
 binding-more scopes more (binding.More v value others leap) before =
     ap (λ l. (v, value) ∷ l) (get_or_append_left scopes more [] others before)
+binding-more scopes more (binding.Call frame) before = refl
 
 length-scopes : (cells : List Binding) → length (scopes_of cells) ≡ length cells
 unfolding scopes_of
@@ -65,6 +66,7 @@ leads-more scopes more k (binding.More w value others leap) inside before leads 
           ap (bound_to v) (get_or_append_left scopes more [] others there) ∙ leads.same v outside
           ∙ ap (bound_to v) (sym (get_or_append_left scopes more [] leap.place target));
     }
+leads-more scopes more k (binding.Call frame) inside before leads = tt
 
 inside_of : (cells : List Binding) (k : ℕ) (c : Binding) → slice_get cells k ≡ Some c → k < length cells
 inside_of [] k c found = absurd cc
@@ -117,6 +119,10 @@ module _ (cells : List Binding) (scopes : List (List (VarId × Datum))) (same : 
       → bound_to v (get_or scopes k []) ≡ None
   none_at v k x inside read is = ap (bound_to v) (read_list k x binding.Nothing inside read is)
 
+  pub call_at : (v k : ℕ) (x : Binding) (frame : List (VarId × Datum)) → k < length scopes → x ≡ get_or cells k x
+      → x ≡ binding.Call frame → bound_to v (get_or scopes k []) ≡ bound_to v frame
+  call_at v k x frame inside read is = ap (bound_to v) (read_list k x (binding.Call frame) inside read is)
+
   pub some_at : (v k : ℕ) (x : Binding) (w : VarId) (value : Datum) (others : ℕ) (leap : Leap) → k < length scopes
       → x ≡ get_or cells k x → x ≡ binding.More w value others leap
       → (others < k) × (bound_to v (get_or scopes k [])
@@ -144,16 +150,6 @@ found_here o p b x step is = step ∙ ap (λ c. cond c (Some x) p) is
 
 pub missed_here : (o p : Option Datum) (b : Bool) (x : Datum) → o ≡ cond b (Some x) p → b ≡ false → o ≡ p
 missed_here o p b x step is = step ∙ ap (λ c. cond c (Some x) p) is
-
--- the leap over one variable
-pub leads-near : (scopes : List (List (VarId × Datum))) (w : VarId) (leap : Leap) → leap.least ≡ w.0 → leap.most ≡ w.0
-    → Leads scopes w leap.place leap
-leads-near scopes w leap least most =
-    record {
-      there = omega arith;
-      apart = λ v outside. search (tests, rules, least, most, outside);
-      same = λ v outside. refl;
-    }
 
 -- outside of the longer leap is outside of each of those that it is made of
 module _ (leap first second : Leap) (w : VarId) (least : leap.least ≡ min (min w.0 first.least) second.least)

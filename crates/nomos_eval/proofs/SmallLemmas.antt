@@ -165,12 +165,6 @@ pub value-enters : (lists : ProgramLists) (env : Environment) (t : TermId) (o : 
 value-enters lists env t o e r is enters said =
     let P : Evaluation → Type 0 = λ f. IsValue r f in subst P (sym (whole-enters lists env t o e is enters)) said
 
--- a part that is a number is that number
-pub number-is : (v : Value) (z : ℤ) → part.Number z ≡ part_of v → v ≡ int z
-number-is (int x) z is = ap int (let same : x ≡ z = cc is in same)
-number-is (truth b) z is = absurd cc
-number-is (list vs) z is = absurd cc
-
 -- two numbers, and what is done with them
 numbers-end : (lists : ProgramLists) (env : Environment) (a b : TermId) (next : ℤ → ℤ → Counted) (x y : ℤ)
     → IsNumber env (slice_get lists.terms a.0) x → IsNumber env (slice_get lists.terms b.0) y

@@ -1,5 +1,6 @@
 -- Mirrors of the code, on which no promise stands.
 pub mod Around
+pub mod Ascending
 pub mod Begin
 pub mod ListCell
 pub mod Load

@@ -1,8 +1,10 @@
 //! The variables that stand around a term, and how they are found.
-ghost use Rattle.std.specs.Prelude.{◌≡◌, IsTrue, IfOk, length, option_copied};
+ghost use Rattle.std.specs.Prelude.{◌≡◌, IfOk, option_copied};
 ghost use Rattle.nomos_ir.specs.Bindings.{bound_to};
-ghost use Rattle.nomos_eval.specs.mirror.Around.{IsHigher, IsLookedUp, IsPlaceBelow, Rises, StandsNotBelow};
+ghost use Rattle.nomos_eval.specs.mirror.Around.{IsLookedUp};
+ghost use Rattle.nomos_eval.specs.mirror.Ascending.{Rises};
 
+use crate::ascending::{place_of, rising};
 use crate::datum::Datum;
 use crate::list_store::Lists;
 use crate::values::load;
@@ -15,75 +17,6 @@ use std::alloc::AllocError;
 pub(crate) struct Around<'a> {
     pub(crate) env: &'a [(VarId, Value)],
     pub(crate) known: usize,
-}
-
-// Where the first pair of a variable stands, if it is among so many first ones, which ascend: by halving.
-fn halved(env: &[(VarId, Value)], known: usize, v: VarId) -> Option<usize>
-    requires { Rises env.now known }
-    ensures { IsPlaceBelow env.now v known result }
-{
-    let mut from = 0;
-    let mut to = known;
-    while from < to {
-        let middle = from + (to - from) / 2;
-        let number = env[middle].0.0;
-        if number == v.0 {
-            return Some(middle);
-        }
-        if number < v.0 {
-            from = middle + 1;
-        } else {
-            to = middle;
-        }
-    }
-    None
-}
-
-// Where the first pair of a variable stands, which is not among so many first ones.
-fn along(env: &[(VarId, Value)], from: usize, v: VarId) -> Option<usize>
-    requires { StandsNotBelow env.now v from }
-    ensures { IsPlaceBelow env.now v (length env.now) result }
-{
-    for at in from..env.len() {
-        if env[at].0.0 == v.0 {
-            return Some(at);
-        }
-    }
-    None
-}
-
-// Where the first pair of a variable stands.
-fn place_of(env: &[(VarId, Value)], known: usize, v: VarId) -> Option<usize>
-    requires { Rises env.now known }
-    ensures { IsPlaceBelow env.now v (length env.now) result }
-{
-    match halved(env, known, v) {
-        Some(place) => Some(place),
-        None => along(env, known, v),
-    }
-}
-
-/// Of how many first pairs it is known that they ascend, where it was known of so many, and none from the end on is
-/// looked at.
-pub(crate) fn rising(env: &[(VarId, Value)], known: usize, end: usize) -> usize
-    requires { Rises env.now known }
-    ensures { Rises env.now result }
-{
-    let mut now = known;
-    while now < end && is_higher(env, now) {
-        now += 1;
-    }
-    now
-}
-
-// Whether there is a pair at the place, and its variable is higher than that of the pair before it, if there is one.
-fn is_higher(env: &[(VarId, Value)], at: usize) -> bool
-    ensures { IsTrue result → IsHigher env.now at }
-{
-    if at >= env.len() {
-        return false;
-    }
-    at == 0 || env[at - 1].0.0 < env[at].0.0
 }
 
 /// The value of a variable, by the first with its number, where so many first ones are known to ascend.

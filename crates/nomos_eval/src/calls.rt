@@ -1,9 +1,11 @@
 //! How functions are entered, and lists taken apart.
-ghost use Rattle.std.specs.Prelude.{◌≡◌, ◌<◌, length, map, slice_get, IfOk};
+ghost use Rattle.std.specs.Prelude.{◌≡◌, ◌<◌, ◌≤◌, IsTrue, length, map, slice_get, IfOk};
 ghost use Rattle.nomos_eval.specs.declared.pending.Pending.TheVariants as act;
-ghost use Rattle.nomos_eval.specs.mirror.Evaluator.{IsSound, IsBinding, Does, DoesFor};
+ghost use Rattle.nomos_eval.specs.mirror.Ascending.{Rises};
+ghost use Rattle.nomos_eval.specs.mirror.Evaluator.{IsBound, IsSound, Does, DoesFor, below_at};
 
 use crate::acts::take;
+use crate::ascending::rising;
 use crate::datum::Datum;
 use crate::evaluator::Evaluator;
 use crate::pending::{Cases, Pending, TermScope};
@@ -14,10 +16,14 @@ use nomos_ir::ids::{FnId, VarId};
 use nomos_ir::kind::Kind;
 use nomos_ir::lists::ProgramLists;
 use nomos_ir::or_no_memory::OrNoMemory;
+use nomos_ir::stack::Stack;
 use std::alloc::AllocError;
 
 /// How many calls may be open.
 const MAX_CALLS: u32 = 1000;
+
+// So many parameters are many.
+const MANY_PARAMETERS: usize = 8;
 
 /// The topmost value is taken apart.
 pub(crate) fn open(
@@ -56,18 +62,13 @@ fn name_at(pars: &[(VarId, Kind)], place: usize) -> Option<VarId>
     Some(par.0)
 }
 
-/// Takes so many topmost values, and binds them to the parameters, of which they are the arguments; those without a
-/// parameter are dropped. Gives the place of the parameters.
-fn bind(
+// Takes so many topmost values, and binds them to the parameters one by one.
+fn bind_each(
     evaluator: &mut Evaluator<'_>,
     pars: &[(VarId, Kind)],
     count: usize,
 ) -> Result<usize, AllocError>
-    ensures { IfOk result (λ place.
-        IsBinding (map (λ par. par.0) pars.now) count evaluator.old.values evaluator.old.scopes 0
-        evaluator.new.values evaluator.new.scopes place
-        × (evaluator.new.todo ≡ evaluator.old.todo) × (evaluator.new.lists ≡ evaluator.old.lists)
-        × (evaluator.new.around ≡ evaluator.old.around)) }
+    ensures { IfOk result (λ place. IsBound pars.now count evaluator.old evaluator.new place) }
 {
     let mut place = evaluator.scopes.add_nothing()?;
     let mut left = count;
@@ -79,6 +80,59 @@ fn bind(
         }
     }
     Ok(place)
+}
+
+// Takes so many topmost values away.
+fn drop_values(values: &mut Stack<Datum>, count: usize)
+    ensures { values.new ≡ below_at count values.old }
+{
+    let mut left = count;
+    while left > 0 {
+        left -= 1;
+        take(values);
+    }
+}
+
+// Takes so many topmost values, and binds them to the parameters, which ascend, all at once.
+fn bind_call(
+    evaluator: &mut Evaluator<'_>,
+    pars: &[(VarId, Kind)],
+    count: usize,
+) -> Result<usize, AllocError>
+    requires enough { count ≤ length evaluator.old.values }
+    requires rises { Rises pars.now (length pars.now) }
+    ensures { IfOk result (λ place. IsBound pars.now count evaluator.old evaluator.new place) }
+{
+    let values = evaluator.values.as_slice();
+    let arguments = &values[values.len() - count..];
+    let place = evaluator.scopes.add_call(pars, arguments)?;
+    drop_values(&mut evaluator.values, count);
+    Ok(place)
+}
+
+// Whether the parameters are many and ascend, and so many values are there.
+fn is_together(values: &Stack<Datum>, pars: &[(VarId, Kind)], count: usize) -> bool
+    ensures { IsTrue result → (count ≤ length values.now) × Rises pars.now (length pars.now) }
+{
+    pars.len() >= MANY_PARAMETERS
+        && count <= values.len()
+        && rising(pars, 0, pars.len()) == pars.len()
+}
+
+/// Takes so many topmost values, and binds them to the parameters, of which they are the arguments; those without a
+/// parameter are dropped. Gives the place of the parameters.
+fn bind(
+    evaluator: &mut Evaluator<'_>,
+    pars: &[(VarId, Kind)],
+    count: usize,
+) -> Result<usize, AllocError>
+    ensures { IfOk result (λ place. IsBound pars.now count evaluator.old evaluator.new place) }
+{
+    if is_together(&evaluator.values, pars, count) {
+        bind_call(evaluator, pars, count)
+    } else {
+        bind_each(evaluator, pars, count)
+    }
 }
 
 /// Enters the body of a function, with so many topmost values as its arguments.

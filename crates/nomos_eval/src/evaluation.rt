@@ -4,7 +4,7 @@ ghost use Rattle.nomos_ir.specs.Bindings.{bound_to};
 ghost use Rattle.nomos_ir.specs.Evaluation.{ends, nought, term_evaluation};
 ghost use Rattle.nomos_ir.specs.ValueNode.{value_of};
 ghost use Rattle.nomos_eval.specs.EvaluatedAs.{EvaluatedAs};
-ghost use Rattle.nomos_eval.specs.mirror.Around.{Rises};
+ghost use Rattle.nomos_eval.specs.mirror.Ascending.{Rises};
 ghost use Rattle.nomos_eval.specs.mirror.Begin.{IsBegun};
 ghost use Rattle.nomos_eval.specs.mirror.Operation.{given};
 ghost use Rattle.nomos_eval.specs.mirror.TermsFound.{IsValue};

@@ -3,7 +3,7 @@ ghost use Rattle.std.specs.Prelude.{◌≡◌, ◌<◌, ◌≤◌, ◌++◌, ◌
 ghost use Rattle.nomos_eval.specs.declared.pending.Pending.TheVariants as act;
 ghost use Rattle.std.specs.List.{AllByRecursion};
 ghost use Rattle.nomos_ir.specs.declared.term_node.TermNode.TheVariants as node;
-ghost use Rattle.nomos_eval.specs.mirror.Around.{Rises};
+ghost use Rattle.nomos_eval.specs.mirror.Ascending.{Rises};
 ghost use Rattle.nomos_eval.specs.mirror.EvalTable.{reach};
 ghost use Rattle.nomos_eval.specs.mirror.Evaluator.{IsSound, IsEntered, IsFound};
 ghost use Rattle.nomos_eval.specs.mirror.Rest.{argument_acts};

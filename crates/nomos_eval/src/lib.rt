@@ -3,11 +3,13 @@
 
 mod acts;
 mod around;
+mod ascending;
 mod calls;
 mod datum;
 mod evaluating;
 pub mod evaluation;
 mod evaluator;
+mod frame;
 mod list_store;
 mod numbers;
 mod pending;

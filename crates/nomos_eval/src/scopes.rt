@@ -1,10 +1,14 @@
 //! The variables of one evaluation. No list of them is ever changed, so they share their parts.
-ghost use Rattle.std.specs.Prelude.{◌≡◌, ◌<◌, ◌≤◌, ◌++◌, ◌∷◌, ◌↔◌, [], IsTrue, length, IfOk, slice_index_or};
+ghost use Rattle.std.specs.Prelude.{◌≡◌, ◌<◌, ◌≤◌, ◌++◌, ◌∷◌, ◌↔◌, [], IsTrue, length, map, IfOk, slice_index_or};
+ghost use Rattle.std.specs.List.{zip};
 ghost use Rattle.nomos_ir.specs.Bindings.{bound_to};
+ghost use Rattle.nomos_eval.specs.mirror.Ascending.{Rises};
 ghost use Rattle.nomos_eval.specs.mirror.EvalScope.{IsOutside, Leads};
 
 use crate::datum::Datum;
+use crate::frame::Frame;
 use nomos_ir::ids::VarId;
+use nomos_ir::kind::Kind;
 use std::alloc::{AllocError, Global};
 use std::marker::Model;
 
@@ -18,11 +22,13 @@ pub(crate) struct Leap {
     count: u32,
 }
 
-/// No variables, or a variable with its value, the place of the others, and a leap over this one and some of those.
-#[derive(Clone, Copy, PartialEq, Eq, Debug)]
+/// No variables; a variable with its value, the place of the others, and a leap over this one and some of those; or the
+/// variables of one call.
+#[derive(Drop)]
 pub(crate) enum Binding {
     Nothing,
     More(VarId, Datum, usize, Leap),
+    Call(Frame),
 }
 
 impl Leap {
@@ -73,6 +79,23 @@ impl Scopes {
         Ok(place)
     }
 
+    /// Adds the list of parameters, which ascend, with their arguments, and gives its place.
+    pub(crate) fn add_call(
+        &mut self,
+        pars: &[(VarId, Kind)],
+        arguments: &[Datum],
+    ) -> Result<usize, AllocError>
+        requires { Rises pars.now (length pars.now) }
+        ensures { IfOk result (λ p. (p ≡ length self.old)
+            × (self.new ≡ self.old ++ zip (map (λ par. par.0) pars.now) arguments.now ∷ [])) }
+    {
+        let place = self.cells.len();
+        let alloc = *self.cells.allocator();
+        let frame = Frame::of_call(alloc, pars, arguments)?;
+        self.cells.push(Binding::Call(frame))?;
+        Ok(place)
+    }
+
     /// Adds the list of a variable with its value before those at a place, and gives its place.
     pub(crate) fn add_more(
         &mut self,
@@ -102,10 +125,10 @@ impl Scopes {
             most: v.0,
             count: 1,
         };
-        let Binding::More(_, _, _, first) = self.cells[others] else {
+        let Binding::More(_, _, _, first) = &self.cells[others] else {
             return near;
         };
-        let Binding::More(_, _, _, second) = self.cells[first.place] else {
+        let Binding::More(_, _, _, second) = &self.cells[first.place] else {
             return near;
         };
         if first.count != second.count {
@@ -126,14 +149,15 @@ impl Scopes {
     {
         let mut at = place;
         loop {
-            match self.cells[at] {
+            match &self.cells[at] {
                 Binding::Nothing => return None,
                 Binding::More(w, value, others, leap) => {
-                    if w == v {
-                        return Some(value);
+                    if *w == v {
+                        return Some(*value);
                     }
-                    at = if leap.passes(v) { leap.place } else { others };
+                    at = if leap.passes(v) { leap.place } else { *others };
                 }
+                Binding::Call(frame) => return frame.look_up(v),
             }
         }
     }

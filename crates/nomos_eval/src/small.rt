@@ -4,7 +4,7 @@ ghost use Rattle.nomos_ir.specs.Bindings.{bound_to};
 ghost use Rattle.nomos_ir.specs.Evaluation.{nought, term_evaluation};
 ghost use Rattle.nomos_ir.specs.Value.{truth_in};
 ghost use Rattle.nomos_eval.specs.SmallTest.{Decides, IsSmallPart, IsSmallTest};
-ghost use Rattle.nomos_eval.specs.mirror.Around.{Rises};
+ghost use Rattle.nomos_eval.specs.mirror.Ascending.{Rises};
 ghost use Rattle.nomos_eval.specs.mirror.Operation.{operation_node};
 ghost use Rattle.nomos_eval.specs.mirror.SmallPart.{ComesTo, IsNumber, equal_parts, less_parts, part_of, part_value};
 

@@ -4,10 +4,10 @@ ghost use Rattle.std.specs.List.{flat_map};
 ghost use Rattle.nomos_ir.specs.CodeParts.{arg_terms, code_terms};
 ghost use Rattle.nomos_ir.specs.TermsEvaluation.{instruction_evaluation, terms_evaluation};
 ghost use Rattle.nomos_eval.specs.Outcomes.{outcome_of};
-ghost use Rattle.nomos_eval.specs.mirror.Around.{Rises};
+ghost use Rattle.nomos_eval.specs.mirror.Ascending.{Rises};
 ghost use Rattle.nomos_eval.specs.mirror.TermsFound.{AreValues};
 
-use crate::around::rising;
+use crate::ascending::rising;
 use crate::evaluation::{Env, eval_node};
 use nomos_ir::code_node::{CodeNode, ValueArg};
 use nomos_ir::fault::Fault;

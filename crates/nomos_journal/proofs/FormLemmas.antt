@@ -5,12 +5,12 @@ use Rattle.std.specs.Str.{bytes_eq}
 use Rattle.nomos_ir.specs.CodeForm.{form_name}
 use Rattle.nomos_ir.specs.declared.code_form.CodeForm.{CodeForm}
 use Rattle.nomos_ir.specs.declared.code_form.CodeForm.TheVariants as form
-use Rattle.nomos_texts.specs.ReadAs.{ReadsAs}
-use Rattle.nomos_texts.specs.Splitting.{Lacks}
-use Rattle.nomos_texts.proofs.NamingLaws.{ReadsAs-named}
-use Rattle.nomos_texts.proofs.OneTextLaws.{ReadsItself}
-use Rattle.nomos_texts.proofs.ReadingLaws.{ReadsAs-none}
-use Rattle.nomos_texts.proofs.SplittingLaws.{Lacks-tested}
+use Rattle.nomos_printing.specs.ReadAs.{ReadsAs}
+use Rattle.nomos_printing.specs.Splitting.{Lacks}
+use Rattle.nomos_printing.proofs.NamingLaws.{ReadsAs-named}
+use Rattle.nomos_printing.proofs.OneTextLaws.{ReadsItself}
+use Rattle.nomos_printing.proofs.ReadingLaws.{ReadsAs-none}
+use Rattle.nomos_printing.proofs.SplittingLaws.{Lacks-tested}
 use Rattle.nomos_journal.specs.Line.{IsGasless}
 use Rattle.nomos_journal.specs.mirror.Forms.{all_forms, form_named}
 

@@ -7,13 +7,13 @@ use Rattle.std.proofs.lemmas.List.Elements.{All-head, All-tail}
 use Rattle.nomos_ir.specs.CodeForm.{form_name}
 use Rattle.nomos_ir.specs.declared.code_form.CodeForm.{CodeForm}
 use Rattle.nomos_legal.specs.declared.journal.End.{End}
-use Rattle.nomos_texts.specs.End.{end_text, IsEnd, HasLineBelow}
-use Rattle.nomos_texts.specs.ReadAs.{ReadsAs}
-use Rattle.nomos_texts.specs.Splitting.{Lacks, ComesApart}
-use Rattle.nomos_texts.proofs.LengthLaws.{length-decimal_64, length-end_text_line}
-use Rattle.nomos_texts.proofs.OneTextLaws.{ReadsItself, one_text, number_itself, end_itself}
-use Rattle.nomos_texts.proofs.SplittingLaws.{Lacks-decimal, Lacks-tested, Lacks-append, apart-only}
-use Rattle.nomos_texts.proofs.FeedLaws.{feedless_number, feedless_end}
+use Rattle.nomos_printing.specs.End.{end_text, IsEnd, HasLineBelow}
+use Rattle.nomos_printing.specs.ReadAs.{ReadsAs}
+use Rattle.nomos_printing.specs.Splitting.{Lacks, ComesApart}
+use Rattle.nomos_printing.proofs.LengthLaws.{length-decimal_64, length-end_text_line}
+use Rattle.nomos_printing.proofs.OneTextLaws.{ReadsItself, one_text, number_itself, end_itself}
+use Rattle.nomos_printing.proofs.SplittingLaws.{Lacks-decimal, Lacks-tested, Lacks-append, apart-only}
+use Rattle.nomos_printing.proofs.FeedLaws.{feedless_number, feedless_end}
 use Rattle.nomos_journal.specs.Line.{head_text, line_text, IsLine}
 use Rattle.nomos_journal.specs.Text.{lines_text}
 use Rattle.nomos_journal.specs.declared.line.JournalLine.{JournalLine}

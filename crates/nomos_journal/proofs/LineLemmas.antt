@@ -7,12 +7,12 @@ use Rattle.std.proofs.lemmas.Str.Parse.{digit_at}
 use Rattle.nomos_ir.specs.CodeForm.{form_name}
 use Rattle.nomos_ir.specs.declared.code_form.CodeForm.{CodeForm}
 use Rattle.nomos_legal.specs.declared.journal.End.{End}
-use Rattle.nomos_texts.specs.End.{end_text, IsEnd}
-use Rattle.nomos_texts.specs.Number.{ReadsBits}
-use Rattle.nomos_texts.specs.ReadAs.{ReadsAs}
-use Rattle.nomos_texts.specs.Splitting.{Lacks, ComesApart}
-use Rattle.nomos_texts.proofs.ReadingLaws.{ReadsAs-none}
-use Rattle.nomos_texts.proofs.SplittingLaws.{Lacks-apart, Lacks-decimal, ComesApart-parts}
+use Rattle.nomos_printing.specs.End.{end_text, IsEnd}
+use Rattle.nomos_printing.specs.Number.{ReadsBits}
+use Rattle.nomos_printing.specs.ReadAs.{ReadsAs}
+use Rattle.nomos_printing.specs.Splitting.{Lacks, ComesApart}
+use Rattle.nomos_printing.proofs.ReadingLaws.{ReadsAs-none}
+use Rattle.nomos_printing.proofs.SplittingLaws.{Lacks-apart, Lacks-decimal, ComesApart-parts}
 use Rattle.nomos_journal.specs.Line.{head_text, line_text, IsLine, IsGasless}
 use Rattle.nomos_journal.specs.declared.line.JournalLine.{JournalLine}
 use Rattle.nomos_journal.specs.declared.line.JournalLine.TheVariants as line

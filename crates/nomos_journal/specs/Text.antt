@@ -1,7 +1,7 @@
 -- A journal's text as lines.
 use Rattle.std.specs.Prelude.{◌≡◌, ◌<◌, ℕ, List, [], ◌∷◌, ◌++◌, length, Option, Some, None}
 use Rattle.std.specs.List.{flat_map}
-use Rattle.nomos_texts.specs.Splitting.{Lacks, ComesApart}
+use Rattle.nomos_printing.specs.Splitting.{Lacks, ComesApart}
 use Rattle.nomos_journal.specs.Line.{line_text}
 use Rattle.nomos_journal.specs.declared.line.JournalLine.{JournalLine}
 use Rattle.nomos_journal.specs.declared.text.TextLine.{TextLine}

@@ -2,7 +2,7 @@
 
 ghost use Rattle.std.specs.Prelude.{◌≡◌};
 ghost use Rattle.nomos_ir.specs.CodeForm.{form_name};
-ghost use Rattle.nomos_texts.specs.ReadAs.{ReadsAs};
+ghost use Rattle.nomos_printing.specs.ReadAs.{ReadsAs};
 ghost use Rattle.nomos_journal.specs.Line.{IsGasless};
 ghost use Rattle.nomos_journal.specs.mirror.Forms.{form_named};
 

@@ -6,8 +6,8 @@ ghost use Rattle.nomos_journal.specs.Line.{head_text, line_text};
 
 use nomos_ir::code_form::CodeForm;
 use nomos_legal::journal::End;
-use nomos_texts::end::push_end;
-use nomos_texts::number::push_number;
+use nomos_printing::end::push_end;
+use nomos_printing::number::push_number;
 use std::alloc::AllocError;
 
 /// The version of a journal's text: what the line of a firing says.

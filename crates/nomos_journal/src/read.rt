@@ -1,15 +1,15 @@
 //! How a line of a journal's text is read.
 
 ghost use Rattle.std.specs.Prelude.{◌≡◌, ℕ, IfOk};
-ghost use Rattle.nomos_texts.specs.ReadAs.{ReadsAs};
+ghost use Rattle.nomos_printing.specs.ReadAs.{ReadsAs};
 ghost use Rattle.nomos_journal.specs.Line.{line_text, IsLine};
 ghost use Rattle.nomos_journal.specs.mirror.JournalLineKinds.{IsFiredBy, IsFiring, IsShortLine, fired_text};
 
 use crate::form_names::read_gasless;
 use crate::line::{JournalLine, Version};
-use nomos_texts::end::read_end;
-use nomos_texts::number::{read_u32, read_u64};
-use nomos_texts::splitting::{behind, is_word, split_once};
+use nomos_printing::end::read_end;
+use nomos_printing::number::{read_u32, read_u64};
+use nomos_printing::splitting::{behind, is_word, split_once};
 use std::alloc::{AllocError, Global};
 
 // What a process fired, behind its number.

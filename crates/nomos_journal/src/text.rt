@@ -3,7 +3,7 @@
 ghost use Rattle.std.specs.Prelude.{◌≡◌};
 ghost use Rattle.nomos_journal.specs.Text.{NextLine};
 
-use nomos_texts::splitting::split_once;
+use nomos_printing::splitting::split_once;
 use std::marker::Model;
 
 /// The next line of a text.

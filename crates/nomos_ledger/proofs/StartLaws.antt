@@ -7,10 +7,10 @@ use Rattle.nomos_ir.specs.declared.ids.CodeId.{CodeId}
 use Rattle.nomos_types.specs.Acceptance.{Acceptance, IsAccepted}
 use Rattle.nomos_machine.specs.Starting.{started_with}
 use Rattle.nomos_machine.specs.State.{State}
-use Rattle.nomos_wake.specs.ProcessesCome.{HasGrown}
-use Rattle.nomos_wake.specs.Covering.{Covers, IsFollowed, IsNoted, MayBeReady}
-use Rattle.nomos_wake.specs.declared.awake.Awake.{Awake}
-use Rattle.nomos_wake.proofs.BeginLaws.{begun-covers, grown-same, grown-twice, start-grown}
+use Rattle.nomos_ready.specs.ProcessesCome.{HasGrown}
+use Rattle.nomos_ready.specs.Covering.{Covers, IsFollowed, IsNoted, MayBeReady}
+use Rattle.nomos_ready.specs.declared.awake.Awake.{Awake}
+use Rattle.nomos_ready.proofs.BeginLaws.{begun-covers, grown-same, grown-twice, start-grown}
 use Rattle.nomos_legal.specs.Batch.{after_start, after_starts, named, state_or}
 use Rattle.nomos_legal.specs.Ledger.{Contracts, LedgerState}
 use Rattle.nomos_legal.specs.StandsFor.{WorldStandsFor}

@@ -11,8 +11,8 @@ ghost use Rattle.nomos_deeds.specs.Acting.{HasNumbers};
 ghost use Rattle.nomos_legal.specs.Ending.{EndsAs, GoesOn};
 ghost use Rattle.nomos_legal.specs.StandsFor.{WorldStandsFor};
 ghost use Rattle.nomos_ledger.specs.Calls.{FiresIn};
-ghost use Rattle.nomos_wake.specs.Covering.{Covers};
-ghost use Rattle.nomos_wake.specs.Foreseeing.{IsForeseen};
+ghost use Rattle.nomos_ready.specs.Covering.{Covers};
+ghost use Rattle.nomos_ready.specs.Foreseeing.{IsForeseen};
 ghost use Rattle.nomos_ledger.specs.Watching.{IsWatched};
 
 use crate::world::World;
@@ -21,10 +21,10 @@ use nomos_deeds::machine::Machine;
 use nomos_deeds::undo::Undo;
 use nomos_eval::wanted::{Outcome, Wanted};
 use nomos_legal::journal::{End, Firing};
+use nomos_ready::awake::Awake;
+use nomos_ready::seeking::{any_ready, awake_from, next_ready};
+use nomos_ready::waking::{Foreseen, foresee, wake_after};
 use nomos_types::accepted::Accepted;
-use nomos_wake::awake::Awake;
-use nomos_wake::seeking::{any_ready, awake_from, next_ready};
-use nomos_wake::waking::{Foreseen, foresee, wake_after};
 use std::alloc::{AllocError, Global};
 
 /// A batch under way, and the processes of it that may be ready, where they are known.

@@ -2,10 +2,10 @@
 ghost use Rattle.nomos_legal.specs.StandsFor.{StandsFor};
 
 use nomos_ledger::ledger::Ledger;
-use nomos_named::indexed::IndexedState;
 use nomos_snapshot::error::LoadError;
 use nomos_snapshot::ledger_loading::load;
 use nomos_snapshot::saving::save;
+use nomos_state::indexed::IndexedState;
 use nomos_types::accepted::Accepted;
 use std::alloc::{AllocError, Global};
 

@@ -12,7 +12,7 @@ use Rattle.nomos_machine.specs.declared.object.Said.{Said}
 use Rattle.nomos_machine.proofs.OutsideTalkLaws.{hears-ends, talk-ends, talk-goes_on, talk-not_wrong}
 use Rattle.nomos_deeds.specs.Acting.{HasNumbers}
 use Rattle.nomos_deeds.specs.Firings.{MayFire}
-use Rattle.nomos_wake.specs.declared.awake.Awake.{Awake}
+use Rattle.nomos_ready.specs.declared.awake.Awake.{Awake}
 use Rattle.nomos_monitor.specs.Talks.{EndsBy, GoesWell, IsTalk}
 use Rattle.nomos_monitor.specs.Watching.{IsWatched}
 use Rattle.nomos_monitor.proofs.TalkingLaws.{hears-talk, says-talk, talk-stays}

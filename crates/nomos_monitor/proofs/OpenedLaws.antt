@@ -7,9 +7,9 @@ use Rattle.nomos_machine.specs.Run.{IsQuiet}
 use Rattle.nomos_machine.specs.State.{State, gas_of}
 use Rattle.nomos_machine.specs.TypedState.{IsTyped}
 use Rattle.nomos_equality.specs.Carriers.{CarriesNothing}
-use Rattle.nomos_wake.specs.Covering.{Covers, IsFollowed, IsNoted, MayBeReady}
-use Rattle.nomos_wake.specs.declared.awake.Awake.{Awake}
-use Rattle.nomos_wake.proofs.BeginLaws.{begun-covers}
+use Rattle.nomos_ready.specs.Covering.{Covers, IsFollowed, IsNoted, MayBeReady}
+use Rattle.nomos_ready.specs.declared.awake.Awake.{Awake}
+use Rattle.nomos_ready.proofs.BeginLaws.{begun-covers}
 use Rattle.nomos_monitor.specs.TalkOpening.{CanOpenBy, OpensNamed}
 use Rattle.nomos_monitor.specs.Talks.{IsTalk}
 use Rattle.nomos_monitor.proofs.TalkingLaws.{opens-talk}

@@ -23,12 +23,12 @@ use Rattle.nomos_machine.proofs.NameLaws.{type_of-below}
 use Rattle.nomos_machine.proofs.SectionLaws.{offering-found}
 use Rattle.nomos_machine.proofs.PutLaws.{contains-one, put-all, put-kept}
 use Rattle.nomos_machine.proofs.HearingLaws.{message-read_outside}
-use Rattle.nomos_wake.specs.ProcessesCome.{HasGrown, IsNewIn}
-use Rattle.nomos_wake.specs.Covering.{Covers}
-use Rattle.nomos_wake.specs.declared.awake.Awake.{Awake}
-use Rattle.nomos_wake.proofs.CoverLaws.{spoken-covers}
+use Rattle.nomos_ready.specs.ProcessesCome.{HasGrown, IsNewIn}
+use Rattle.nomos_ready.specs.Covering.{Covers}
+use Rattle.nomos_ready.specs.declared.awake.Awake.{Awake}
+use Rattle.nomos_ready.proofs.CoverLaws.{spoken-covers}
 use Rattle.nomos_monitor.specs.Watching.{IsWatched}
-use Rattle.nomos_wake.specs.Woken.{IsSpokenTo, IsSpoken}
+use Rattle.nomos_ready.specs.Woken.{IsSpokenTo, IsSpoken}
 
 -- ---- what is said
 

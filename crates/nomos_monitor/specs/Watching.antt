@@ -2,8 +2,8 @@
 use Rattle.std.specs.Prelude.{◌≡◌, Option, Some, None}
 use Rattle.nomos_types.specs.Acceptance.{Acceptance}
 use Rattle.nomos_machine.specs.State.{State}
-use Rattle.nomos_wake.specs.Covering.{Covers}
-use Rattle.nomos_wake.specs.declared.awake.Awake.{Awake}
+use Rattle.nomos_ready.specs.Covering.{Covers}
+use Rattle.nomos_ready.specs.declared.awake.Awake.{Awake}
 use Rattle.nomos_monitor.specs.Talks.{IsTalk, TalkState}
 
 -- those that are told as ones that may be ready cover the state, where any are told

@@ -8,17 +8,17 @@ ghost use Rattle.nomos_machine.specs.State.{gas_of};
 ghost use Rattle.nomos_machine.specs.Step.{IsReady};
 ghost use Rattle.nomos_machine.specs.TypedState.{IsTyped};
 ghost use Rattle.nomos_deeds.specs.Firings.{Fires, MayFire};
-ghost use Rattle.nomos_wake.specs.Foreseeing.{IsForeseen};
+ghost use Rattle.nomos_ready.specs.Foreseeing.{IsForeseen};
 ghost use Rattle.nomos_monitor.specs.Watching.{IsWatched};
 
 use nomos_deeds::fire::Fire;
 use nomos_deeds::talking::Talking;
 use nomos_ir::ids::ProcId;
 use nomos_machine::object::{Heard, Said};
+use nomos_ready::awake::Awake;
+use nomos_ready::seeking::{awake_from, next_ready};
+use nomos_ready::waking::{Foreseen, foresee, wake_after, wake_spoken};
 use nomos_types::accepted::Accepted;
-use nomos_wake::awake::Awake;
-use nomos_wake::seeking::{awake_from, next_ready};
-use nomos_wake::waking::{Foreseen, foresee, wake_after, wake_spoken};
 use std::alloc::{AllocError, Global};
 
 /// A machine, and the processes of it that may be ready, where they are known.

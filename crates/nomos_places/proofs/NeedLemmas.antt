@@ -113,12 +113,6 @@ length-more xs x n is =
     let long = length-append xs (x ∷ []) in
     omega (arith, is, long)
 
--- what a declaration needs that is there
-pub needed-told : (a : Acceptance) (o : Option ProcDecl) (needs : ℕ)
-    → IfSome o (λ d. needs ≡ dths a.annotations d.amount) → IsSome o → needs ≡ needed a o
-needed-told a (Some d) needs told there = told
-needed-told a None needs told there = absurd cc
-
 -- ---- a judgement that stands in the program
 
 module _ {a : Acceptance} (accepted : IsAccepted a) where

@@ -11,7 +11,7 @@ use Rattle.nomos_machine.specs.declared.object.Message.{Message}
 use Rattle.nomos_machine.specs.declared.object.Object.{Object}
 use Rattle.nomos_machine.specs.declared.object.Object.TheVariants as object
 use Rattle.nomos_machine.specs.declared.object.Process.{Process}
-use Rattle.nomos_parts.proofs.BecomesLemmas.{put-same, put-put}
+use Rattle.nomos_changes.proofs.BecomesLemmas.{put-same, put-put}
 use Rattle.nomos_plain.specs.Parts.{has_number, hole, object_in, process_in}
 use Rattle.nomos_plain.specs.declared.plain_object.PlainObject.{PlainObject}
 use Rattle.nomos_plain.specs.declared.plain_object.PlainObject.TheVariants as plain

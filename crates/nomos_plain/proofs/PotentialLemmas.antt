@@ -5,7 +5,7 @@ use Rattle.std.proofs.lemmas.List.Sums.{sum_by-cons}
 use Rattle.std.specs.Option.{is_some}
 use Rattle.nomos_ir.specs.declared.ids.VarId.{VarId}
 use Rattle.nomos_machine.specs.declared.object.PotentialList.{PotentialList}
-use Rattle.nomos_parts.specs.Gives.{potential_in}
+use Rattle.nomos_changes.specs.Gives.{potential_in}
 
 pub potential-sum : (lists : List (VarId × PotentialList))
     → potential_in lists ≡ sum_by (λ e. e.1.amount * length e.1.items) lists

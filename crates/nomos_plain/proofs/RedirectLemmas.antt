@@ -13,7 +13,7 @@ use Rattle.nomos_machine.specs.declared.object.Object.{Object}
 use Rattle.nomos_machine.specs.declared.object.Object.TheVariants as object
 use Rattle.nomos_machine.proofs.PutLaws.{InOrder, object_at-own}
 use Rattle.nomos_machine.proofs.UserLaws.{user_of-found}
-use Rattle.nomos_parts.specs.SmallChanges.{redirected}
+use Rattle.nomos_changes.specs.SmallChanges.{redirected}
 use Rattle.nomos_plain.specs.Parts.{has_number, object_in}
 use Rattle.nomos_plain.specs.declared.plain_object.PlainObject.{PlainObject}
 use Rattle.nomos_plain.proofs.PlaceLemmas.{place_found, place_none, place_set}

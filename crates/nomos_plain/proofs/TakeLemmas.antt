@@ -5,7 +5,7 @@ use Rattle.nomos_machine.specs.State.{State, process_at}
 use Rattle.nomos_machine.specs.declared.object.Object.{Object}
 use Rattle.nomos_machine.specs.declared.object.Object.TheVariants as object
 use Rattle.nomos_machine.specs.declared.object.Process.{Process}
-use Rattle.nomos_parts.specs.SmallChanges.{with_process}
+use Rattle.nomos_changes.specs.SmallChanges.{with_process}
 use Rattle.nomos_plain.specs.Parts.{hole}
 use Rattle.nomos_plain.proofs.PlaceLemmas.{put_in_hole, put_back}
 

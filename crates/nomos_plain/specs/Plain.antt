@@ -1,7 +1,7 @@
 -- What a plain state is seen as.
 use Rattle.std.specs.Prelude.{ℕ, ◌/◌}
 use Rattle.nomos_machine.specs.State.{State}
-use Rattle.nomos_parts.specs.declared.performing.TheConstants.{ROOM_OF_AN_ACT}
+use Rattle.nomos_changes.specs.declared.performing.TheConstants.{ROOM_OF_AN_ACT}
 use Rattle.nomos_plain.specs.Parts.{state_of}
 use Rattle.nomos_plain.specs.declared.plain_parts.PlainParts.{PlainParts}
 

@@ -1,16 +1,16 @@
 //! A process of a plain state changes: its plain fields, its channels, its values, its lists.
 ghost use Rattle.std.specs.Prelude.{◌≡◌, ◌≤◌, ◌<◌, ◌+◌, OnErr, OnOk};
 ghost use Rattle.nomos_machine.specs.Revised.{with_channel, with_value, without_channel};
-ghost use Rattle.nomos_parts.specs.SmallChanges.{Becomes, with_channels, with_fields, with_list_change, with_lists, with_values};
+ghost use Rattle.nomos_changes.specs.SmallChanges.{Becomes, with_channels, with_fields, with_list_change, with_lists, with_values};
 ghost use Rattle.nomos_plain.specs.Parts.{IsSound, state_of};
 
 use crate::plain_parts::PlainParts;
+use nomos_changes::list_change::ListChange;
+use nomos_changes::pairs::bindings_of;
 use nomos_deeds::sight::SeenProcess;
 use nomos_ir::ids::VarId;
 use nomos_ir::value::Value;
 use nomos_machine::object::PotentialList;
-use nomos_parts::list_change::ListChange;
-use nomos_parts::pairs::bindings_of;
 use std::alloc::{AllocError, Global};
 
 impl PlainParts {

@@ -2,16 +2,16 @@
 ghost use Rattle.std.specs.Prelude.{◌≡◌, ◌≤◌, ◌<◌, ◌+◌, ◌-◌, ◌^◌, IsOk, OnErr, OnOk};
 ghost use Rattle.nomos_machine.specs.Objects.{object_number};
 ghost use Rattle.nomos_machine.specs.declared.object.Object.TheVariants as object;
-ghost use Rattle.nomos_parts.specs.SmallChanges.{process_born, with_name, with_object, without_object};
+ghost use Rattle.nomos_changes.specs.SmallChanges.{process_born, with_name, with_object, without_object};
 ghost use Rattle.nomos_plain.specs.Parts.{HasRoom, IsSound, object_in, state_of};
 
 use crate::finds::place_of;
 use crate::plain_object::{PlainObject, PlainProcess};
 use crate::plain_parts::PlainParts;
+use nomos_changes::newborn::Newborn;
+use nomos_changes::pairs::bindings_of;
 use nomos_ir::ids::TypeId;
 use nomos_machine::object::Message;
-use nomos_parts::newborn::Newborn;
-use nomos_parts::pairs::bindings_of;
 use std::alloc::{AllocError, Global};
 
 impl PlainParts {

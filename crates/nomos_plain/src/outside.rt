@@ -1,7 +1,7 @@
 //! The name that an outside party has, as it comes, goes on and goes.
 
 use crate::plain::PlainState;
-use nomos_parts::outside::Outside;
+use nomos_changes::outside::Outside;
 use std::alloc::AllocError;
 
 impl Outside for PlainState {

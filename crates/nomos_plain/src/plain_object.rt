@@ -2,16 +2,16 @@
 ghost use Rattle.std.specs.Prelude.{◌≡◌, ◌≤◌, ◌<◌, ◌+◌, OnErr, OnOk};
 ghost use Rattle.std.specs.Vec.{vec_len, vec_capacity};
 ghost use Rattle.nomos_machine.specs.Revised.{with_channel, with_value, without_channel};
-ghost use Rattle.nomos_parts.specs.SmallChanges.{with_fields, with_list_change};
+ghost use Rattle.nomos_changes.specs.SmallChanges.{with_fields, with_list_change};
 ghost use Rattle.nomos_plain.specs.Parts.{process_in};
 
+use nomos_changes::list_change::ListChange;
+use nomos_changes::pairs::{bind, bind_if, unbind, unbind_if};
 use nomos_deeds::sight::SeenProcess;
 use nomos_ir::ids::{CodeId, VarId};
 use nomos_ir::mode::Mode;
 use nomos_ir::value::Value;
 use nomos_machine::object::{Message, PotentialList};
-use nomos_parts::list_change::ListChange;
-use nomos_parts::pairs::{bind, bind_if, unbind, unbind_if};
 use std::alloc::AllocError;
 
 /// A process. Its purse counts Dths.

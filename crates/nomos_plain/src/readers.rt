@@ -14,7 +14,7 @@ ghost use Rattle.nomos_machine.specs.declared.object.Message.{Message as Sent};
 ghost use Rattle.nomos_machine.specs.declared.object.Process.{Process};
 ghost use Rattle.nomos_deeds.specs.Acts.{message_at};
 ghost use Rattle.nomos_deeds.specs.Lowest.{FindsNext};
-ghost use Rattle.nomos_parts.specs.SmallChanges.{value_brought};
+ghost use Rattle.nomos_changes.specs.SmallChanges.{value_brought};
 ghost use Rattle.nomos_deeds.specs.Readers.{IsLinearName, IsTransaction, IsWaiting, acquires, keeper, looks_linear, stands_for, view_of, waits};
 ghost use Rattle.nomos_plain.specs.Parts.{object_in, process_in};
 ghost use Rattle.nomos_plain.specs.PlainWalks.{is_acquiring, is_over, is_ready_in, is_transaction};

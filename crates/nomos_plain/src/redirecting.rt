@@ -4,7 +4,7 @@ ghost use Rattle.std.specs.Option.{option_map};
 ghost use Rattle.std.specs.Vec.{vec_len, vec_capacity};
 ghost use Rattle.nomos_machine.specs.Revised.{renamed, renamed_payload, uses_instead};
 ghost use Rattle.nomos_machine.specs.declared.object.Object.TheVariants as object;
-ghost use Rattle.nomos_parts.specs.SmallChanges.{redirected};
+ghost use Rattle.nomos_changes.specs.SmallChanges.{redirected};
 ghost use Rattle.nomos_plain.specs.Parts.{HasRoom, IsSound, object_in, state_of};
 
 use crate::finds::{place_of, user};

@@ -4,13 +4,13 @@ ghost use Rattle.std.specs.Prelude.{None};
 use crate::finds::{message_at, seen_message};
 use crate::plain::PlainState;
 use crate::readers;
+use nomos_changes::list_change::ListChange;
+use nomos_changes::newborn::Newborn;
+use nomos_changes::parts::Parts;
 use nomos_deeds::sight::{SeenMessage, SeenProcess};
 use nomos_ir::ids::{TypeId, VarId};
 use nomos_ir::value::Value;
 use nomos_machine::object::{Message, PotentialList};
-use nomos_parts::list_change::ListChange;
-use nomos_parts::newborn::Newborn;
-use nomos_parts::parts::Parts;
 use std::alloc::{AllocError, Global};
 
 impl Parts for PlainState {

@@ -3,7 +3,7 @@ ghost use Rattle.std.specs.Prelude.{◌≡◌, ◌+◌, ◌<◌, nat_le, MatchOp
 ghost use Rattle.nomos_ir.specs.ValueNode.{value_of};
 ghost use Rattle.nomos_machine.specs.Deeds.{is_light, lengthened};
 ghost use Rattle.nomos_machine.specs.Objects.{potential_of};
-ghost use Rattle.nomos_parts.specs.Gives.{potential_in};
+ghost use Rattle.nomos_changes.specs.Gives.{potential_in};
 ghost use Rattle.nomos_plain.specs.Parts.{process_in};
 
 use crate::plain_object::PlainProcess;

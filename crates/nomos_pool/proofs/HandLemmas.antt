@@ -13,11 +13,6 @@ use Rattle.nomos_pool.specs.declared.pool.Pool.{Pool}
 use Rattle.nomos_pool.specs.declared.pool.Submitter.{Submitter}
 use Rattle.nomos_pool.specs.declared.pool.Submission.{Submission}
 
--- what a list has where it goes on behind another one
-pub at_seam : {X : Type 0} (xs : List X) (y : X) (ys : List X) (d : X) → get_or (xs ++ y ∷ ys) (length xs) d ≡ y
-at_seam [] y ys d = refl
-at_seam (x ∷ xs) y ys d = at_seam xs y ys d
-
 module _ {T : Type 0} where
   more_dealt : (b : Bool) (x : T) (dealt rest before after : List T) → before ≡ dealt ++ rest
       → after ≡ cond b (x ∷ before) before → after ≡ cond b (x ∷ dealt) dealt ++ rest

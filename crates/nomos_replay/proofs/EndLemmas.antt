@@ -33,10 +33,3 @@ module _ (a : Acceptance) (s : State) where
         ]
         | inr least ↦ none other least
       ]
-
-pub faultless-zero : {a : Acceptance} → IsAccepted a → {s : State} → IsTyped a s → (other : ℕ) → other ≤ 0
-    → fault a s other ≡ None
-faultless-zero {a} accepted {s} typed other within =
-    let same : other ≡ 0 = omega (arith, within) in
-    ap (fault a s) same
-    ∙ no-fault a s 0 (ready-none accepted typed 0 (none-zero typed.numbered (process_at s 0) refl))

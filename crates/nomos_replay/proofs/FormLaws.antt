@@ -53,8 +53,8 @@ use Rattle.nomos_legal.specs.declared.refusal.Refusal.TheVariants as refusal
 use Rattle.nomos_legal.specs.declared.resolved.Resolved.{Resolved}
 use Rattle.nomos_legal.proofs.NextNumberLaws.{given-few, legal-numbers-from}
 use Rattle.nomos_legal.proofs.RightLaws.{batch-started, empty-standing, passage-standing}
-use Rattle.nomos_texts.specs.Cause.{IsCause}
-use Rattle.nomos_texts.specs.End.{IsEnd}
+use Rattle.nomos_printing.specs.Cause.{IsCause}
+use Rattle.nomos_printing.specs.End.{IsEnd}
 use Rattle.nomos_journal.specs.JournalText.{fired_line, firing_line, firing_lines, journal_lines, passage_lines, placed_line}
 use Rattle.nomos_journal.specs.Line.{IsLine}
 use Rattle.nomos_journal.specs.declared.line.JournalLine.{JournalLine}

@@ -30,8 +30,8 @@ use Rattle.nomos_legal.specs.declared.journal.End.TheVariants as end
 use Rattle.nomos_legal.specs.declared.journal.Journal.{Journal}
 use Rattle.nomos_legal.specs.declared.refusal.Refusal.TheVariants as refusal
 use Rattle.nomos_legal.proofs.LegalLaws.{first-made, tells-within}
-use Rattle.nomos_texts.specs.End.{HasLineBelow, IsEnd}
-use Rattle.nomos_texts.proofs.LengthLaws.{length-decimal_32}
+use Rattle.nomos_printing.specs.End.{HasLineBelow, IsEnd}
+use Rattle.nomos_printing.proofs.LengthLaws.{length-decimal_32}
 use Rattle.nomos_journal.specs.JournalText.{fired_line, firing_line, firing_lines, journal_lines, passage_lines, placed_line}
 use Rattle.nomos_journal.specs.Line.{IsLine, line_text}
 use Rattle.nomos_journal.specs.Text.{lines_text}

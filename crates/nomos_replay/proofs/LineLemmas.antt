@@ -2,9 +2,9 @@
 use Rattle.std.proofs.Common.{◌≡◌, ◌∙◌, ◌<◌, ◌^◌, ℕ, List, [], ◌∷◌, ◌++◌, length, length-append, Some, None, sym, ap, subst, arith}
 use Rattle.std.proofs.lemmas.Option.{none-some}
 use Rattle.nomos_legal.specs.declared.journal.End.{End}
-use Rattle.nomos_texts.specs.ReadAs.{ReadsAs}
-use Rattle.nomos_texts.specs.Splitting.{ComesApart, Lacks}
-use Rattle.nomos_texts.proofs.SplittingLaws.{Lacks-apart, apart-only}
+use Rattle.nomos_printing.specs.ReadAs.{ReadsAs}
+use Rattle.nomos_printing.specs.Splitting.{ComesApart, Lacks}
+use Rattle.nomos_printing.proofs.SplittingLaws.{Lacks-apart, apart-only}
 use Rattle.nomos_journal.specs.Line.{line_text, IsLine}
 use Rattle.nomos_journal.specs.declared.line.JournalLine.{JournalLine}
 use Rattle.nomos_journal.specs.declared.line.JournalLine.TheVariants as line

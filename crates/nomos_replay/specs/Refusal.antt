@@ -1,7 +1,7 @@
 -- How the refusal of a journal is written.
 use Rattle.std.specs.Prelude.{ℕ, List, [], ◌∷◌, ◌++◌, Option, Some, None, codes, decimal}
 use Rattle.nomos_legal.specs.declared.journal.End.{End}
-use Rattle.nomos_texts.specs.End.{end_text}
+use Rattle.nomos_printing.specs.End.{end_text}
 use Rattle.nomos_replay.specs.declared.error.ReplayError.{ReplayError}
 use Rattle.nomos_replay.specs.declared.error.ReplayError.TheVariants as error
 

@@ -1,13 +1,13 @@
 //! The line of a journal's refusal.
 
 ghost use Rattle.std.specs.Prelude.{◌≡◌, ◌++◌, ◌∷◌, [], codes, decimal, OnOk};
-ghost use Rattle.nomos_texts.specs.End.{end_text};
+ghost use Rattle.nomos_printing.specs.End.{end_text};
 ghost use Rattle.nomos_replay.specs.Refusal.{cause_of, found_text, refusal_line};
 
 use crate::error::ReplayError;
 use nomos_legal::journal::End;
-use nomos_texts::end::push_end;
-use nomos_texts::number::push_number;
+use nomos_printing::end::push_end;
+use nomos_printing::number::push_number;
 use std::alloc::AllocError;
 
 // Appends a word and the number of a line.

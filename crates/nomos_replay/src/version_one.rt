@@ -8,7 +8,7 @@ ghost use Rattle.nomos_replay.specs.mirror.VersionOne.{entry_lines_in_one, lines
 
 use nomos_journal::line::{JournalLine, Version, push_line};
 use nomos_legal::journal::{End, Entry, Journal};
-use nomos_texts::end::push_end;
+use nomos_printing::end::push_end;
 use std::alloc::{AllocError, Global};
 
 // Appends the lines of firings of these processes.

@@ -21,8 +21,8 @@ use Rattle.nomos_legal.specs.declared.journal.End.{End}
 use Rattle.nomos_legal.specs.declared.journal.End.TheVariants as end
 use Rattle.nomos_legal.specs.declared.journal.Entry.{Entry}
 use Rattle.nomos_legal.specs.declared.journal.Journal.{Journal}
-use Rattle.nomos_texts.specs.End.{end_text}
-use Rattle.nomos_texts.specs.ValueTexts.{value_text}
+use Rattle.nomos_printing.specs.End.{end_text}
+use Rattle.nomos_printing.specs.ValueTexts.{value_text}
 use Rattle.nomos_report.specs.Block.{accepted_block}
 use Rattle.nomos_report.specs.ReportLines.{line, line_of}
 use Rattle.nomos_report.specs.ShownState.{show_lines}

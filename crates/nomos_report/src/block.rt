@@ -10,7 +10,7 @@ use nomos_ir::amount::Amount;
 use nomos_ir::declaration::ProcDecl;
 use nomos_ir::ids::ProcId;
 use nomos_ir::mode::Mode;
-use nomos_texts::number::push_number;
+use nomos_printing::number::push_number;
 use nomos_types::accepted::Accepted;
 use std::alloc::AllocError;
 

@@ -8,7 +8,7 @@ ghost use Rattle.nomos_machine.specs.State.{State};
 ghost use Rattle.nomos_machine.specs.TypedState.{IsTyped};
 ghost use Rattle.nomos_legal.specs.StandsFor.{WorldStandsFor};
 ghost use Rattle.nomos_legal.specs.World.{ledger_begun};
-ghost use Rattle.nomos_texts.specs.End.{end_text};
+ghost use Rattle.nomos_printing.specs.End.{end_text};
 ghost use Rattle.nomos_report.specs.ReportLines.{line_of};
 ghost use Rattle.nomos_report.specs.Reported.{HasNoFirings, end_lines, firings_text, result_line};
 
@@ -19,8 +19,8 @@ use nomos_deeds::undo::Undo;
 use nomos_ir::value::Value;
 use nomos_ledger::world::World;
 use nomos_legal::journal::End;
-use nomos_texts::end::push_end;
-use nomos_texts::value_texts::push_value;
+use nomos_printing::end::push_end;
+use nomos_printing::value_texts::push_value;
 use nomos_types::accepted::Accepted;
 use std::alloc::AllocError;
 

@@ -5,7 +5,7 @@ ghost use Rattle.nomos_base.specs.Gas.{gas_text};
 ghost use Rattle.nomos_report.specs.ReportLines.{line};
 
 use nomos_base::push_gas;
-use nomos_texts::number::push_number;
+use nomos_printing::number::push_number;
 use std::alloc::AllocError;
 
 /// Appends a word.

@@ -2,13 +2,13 @@
 ghost use Rattle.std.specs.Prelude.{◌≡◌, ◌≤◌, ◌<◌, ◌+◌, ◌-◌, ◌^◌, ◌++◌, ◌∷◌, [], All, OnOk, length};
 ghost use Rattle.nomos_machine.specs.Objects.{object_number};
 ghost use Rattle.nomos_machine.specs.TypedState.{HasVariables, VariablesDiffer};
-ghost use Rattle.nomos_parts.specs.SmallChanges.{process_born, with_object};
+ghost use Rattle.nomos_changes.specs.SmallChanges.{process_born, with_object};
 ghost use Rattle.nomos_restore.specs.Numbering.{AreNext};
 
 use crate::restoring::Restoring;
+use nomos_changes::newborn::Newborn;
 use nomos_deeds::sight::SeenProcess;
 use nomos_machine::object::{Object, Process};
-use nomos_parts::newborn::Newborn;
 use std::alloc::{AllocError, Global};
 
 // The number of an object.

@@ -2,7 +2,7 @@
 ghost use Rattle.std.specs.Prelude.{◌≡◌, ◌≤◌, ◌<◌, ◌-◌, ◌^◌, IfOk, OnErr, length};
 ghost use Rattle.nomos_machine.specs.Starting.{opened};
 
-use nomos_parts::parts::Parts;
+use nomos_changes::parts::Parts;
 use std::alloc::AllocError;
 
 /// What a state is changed by where it is made of plain data, beside what acts are made of. None of these small changes

@@ -20,7 +20,7 @@ use Rattle.nomos_run.specs.declared.orders.ScriptRun.{ScriptRun}
 abbrev pub FollowsCrew : Crew → Acceptance → List Passage → Type 0
 FollowsCrew crew a ps = (policy : Policy) → crew ≡ crews.One policy → FollowPolicy policy a ps
 
--- All items were carried out, and this became of them. What is given is their report, the text of their journal where
+-- All items have passed, and this became of them. What is given is their report, the text of their journal where
 -- it was wanted, the last result where it was wanted, and the ledger to which they lead, which stands for the program.
 pub record IsWholeRun {M : Type 0} (a : Acceptance) (orders : Orders) (ps : List Passage) (last : LedgerState)
     (finished : WholeRun M) : Type 0 where
@@ -30,8 +30,8 @@ pub record IsWholeRun {M : Type 0} (a : Acceptance) (orders : Orders) (ps : List
   pub ledger : finished.ledger ≡ last
   pub stands : StandsFor a finished.ledger
 
--- From the first ledger so many first items were carried out, and this became of them: the journal is theirs, within
--- the limit, and their firings are those of the crew. Where more than the journal is given, all items were carried out.
+-- From the first ledger so many first items have passed, and this became of them: the journal is theirs, within the
+-- limit, and their firings are those of the crew. Where more than the journal is given, all items have passed.
 pub record RunsScriptFrom {M : Type 0} (a : Acceptance) (first : LedgerState) (items : List ScriptItem)
     (orders : Orders)
     (run : ScriptRun M) : Type 0 where

@@ -25,7 +25,7 @@ pub struct Runner<'a, G, R> {
     pub orders: Orders,
 }
 
-/// What a run comes to that carried out all items: its report, the text of its journal in version 2 where it was
+/// What a run comes to in which all items have passed: its report, the text of its journal in version 2 where it was
 /// wanted, where it was wanted the last result of the last entry, which only a batch that stays has, and the last
 /// ledger.
 #[derive(Drop, Debug)]

@@ -33,7 +33,7 @@ use std::alloc::{AllocError, Global};
 use std::marker::Model;
 use std::mem;
 
-/// How a worker stops that carries a script on: all items were carried out, or memory was wanting.
+/// How a worker stops that carries a script on: all items have passed, or memory was wanting.
 #[derive(Drop)]
 pub(crate) enum CourseStop {
     Done,
@@ -337,7 +337,7 @@ impl<'a, M: Undo + Drop> ScriptCourse<'a, M> {
         }
     }
 
-    /// What became of the script: the way along the items that were carried out, and the last ledger where all were.
+    /// What became of the script: the way along the items that have passed, and the last ledger where all have.
     pub(crate) fn into_last(self) -> (RunWay<'a>, Result<Ledger<M>, AllocError>)
         ensures ok { IfOk result.1 (λ last. HasGone self.entry.accepted empty_ledger self.entry.orders self.entry.items
             result.0.entries.items last result.0.walk) }

@@ -117,7 +117,7 @@ fn run_course<C: CarriedCourse + Send, G: Gate, R: Threads + Wait + Sync>(
 }
 
 /// Runs a script by a crew, from the empty ledger (docs/MACHINE.md, "Legal journals"): item by item. Several workers
-/// are made once, and take turns until all items are carried out: who has the turn does what is next. The report, and
+/// are made once, and take turns until all items have passed: who has the turn does what is next. The report, and
 /// the text of the journal where it is wanted, are made while it goes. Where memory is wanting, the journal of some
 /// first items is given.
 pub fn run_script_by_crew<M: Undo + Drop + Send, G: Gate, R: Threads + Wait + Sync>(

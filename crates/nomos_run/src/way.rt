@@ -133,7 +133,7 @@ pub(crate) fn end<M: Undo + Drop>(
     }
 }
 
-/// What a run comes to of which no item was carried out, since memory was wanting.
+/// What a run comes to of which no item has passed, since memory was wanting.
 pub(crate) fn end_at_once<M: Undo + Drop>(alloc: Global, limit: u32) -> ScriptRun<M>
     ensures journal { result.journal ≡ journal_of limit [] }
     ensures none { result.finished ≡ None }

@@ -8,7 +8,7 @@ use crate::worlds::{ONE_ACCOUNT, SAY_TWICE, world_of};
 use nomos_ledger::ledger::Ledger;
 use nomos_legal::journal::End;
 use nomos_machine::policy::Policy;
-use nomos_named::indexed::IndexedState;
+use nomos_state::indexed::IndexedState;
 use nomos_workers::batch::{BatchEnd, Crew, Ran};
 use nomos_workers::gate::OpenGate;
 use nomos_workers::run::run_batch;

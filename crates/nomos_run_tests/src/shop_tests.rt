@@ -14,7 +14,7 @@ use nomos_floor::floor::Floor;
 use nomos_ledger::lent::Lent;
 use nomos_ledger::world::World;
 use nomos_legal::journal::End;
-use nomos_named::indexed::IndexedState;
+use nomos_state::indexed::IndexedState;
 use nomos_workers::batch::BatchEnd;
 use nomos_workers::gate::Gate;
 use nomos_workers::shop::Shop;

@@ -5,13 +5,13 @@ ghost use Rattle.nomos_workers.specs.Crews.{IsCrew};
 
 use nomos_accept::accepting::accept;
 use nomos_machine::policy::Policy;
-use nomos_named::indexed::IndexedState;
 use nomos_replay::refused::push_refusal;
 use nomos_replay::replay::replay;
 use nomos_run::orders::{Orders, Runner, ScriptRun, WholeRun};
 use nomos_run::script_crew::run_script_by_crew;
 use nomos_script::parsing::parse_script;
 use nomos_script::script::Script;
+use nomos_state::indexed::IndexedState;
 use nomos_types::accepted::Accepted;
 use nomos_workers::batch::Crew;
 use nomos_workers::gate::{Gate, OpenGate};

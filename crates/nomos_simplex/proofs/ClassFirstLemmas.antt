@@ -35,10 +35,6 @@ alike_first rows class v c i =
     let sum : v ≡ class.first + n = omega (arith, i.from) in
     ap (coefs_of rows) sum ∙ alike_from rows class n c (omega (arith, i.to, sum))
 
-pub coefs-alike : (rows : RowList) (class : Class) (v w : ℕ) → IsClass rows class → IsIn class v → IsIn class w →
-    coefs_of rows v ≡ coefs_of rows w
-coefs-alike rows class v w c i k = alike_first rows class v c i ∙ sym (alike_first rows class w c k)
-
 -- ---- the line of a row's variable at first
 pub line_of-first : (rows : RowList) (v : ℕ) → rows.stars < v → v ≤ rows.stars + length rows.rows →
     line_of (first_table rows) v ≡ record { times = pos 1; basic = v; coefs = coefs_of rows v }

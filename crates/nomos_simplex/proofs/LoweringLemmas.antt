@@ -145,10 +145,3 @@ line-is_line rows goal table line a =
     }
 
 -- ---- how large its tables are
-pub lines-are_lines : (rows : RowList) (table : Table) → IsTableOfRows rows table →
-    All (IsLine (length table.nonbasic)) table.lines
-lines-are_lines rows table t =
-    subst (λ n. All (IsLine n) table.lines) (sym t.stars) (table-is_table rows table t).lines
-
-pub few_columns : (rows : RowList) (table : Table) → IsTableOfRows rows table → length table.nonbasic ≤ 64
-few_columns rows table t = omega (arith, t.stars, rows.few_stars)

@@ -107,23 +107,3 @@ range_more a zero = let same : a ≡ a + zero = omega arith in ap (λ k. k ∷ [
 range_more a (suc n) = rw add-one (ap (λ ks. a ∷ ks) (ap (range_with_len (a + 1)) (sym (add-one n))
     ∙ range_more (a + 1) n) ∙ let same : a + 1 + n ≡ a + suc n = omega arith in ap (λ k. (a ∷ range_with_len
     (a + 1) n) ++ k ∷ []) same)
-
-pub lines_more : (v : ℕ) (rows : List Row) (k : ℕ) (d : Row) → k < length rows →
-    lines_from v (take (k + 1) rows) ≡ lines_from v (take k rows) ++ record {
-      times = pos 1;
-      basic = v + k;
-      coefs =
-          (get_or rows k d).coefs;
-    } ∷ []
-lines_more v [] k d h = absurd (omega arith)
-lines_more v (row ∷ rows) zero d h =
-    let same : v ≡ v + zero = omega arith in
-    let line : ℕ → TableLine = λ b. record { times = pos 1; basic = b; coefs = row.coefs } in
-    ap (λ b. line b ∷ []) same
-lines_more v (row ∷ rows) (suc k) d h =
-    let first : TableLine = record { times = pos 1; basic = v; coefs = row.coefs } in
-    let same : v + 1 + k ≡ v + suc k = omega arith in
-    let last : ℕ → TableLine = λ b. record { times = pos 1; basic = b; coefs = (get_or rows k d).coefs } in
-    rw add-one (ap (λ ls. first ∷ ls) (ap (λ m. lines_from (v + 1) (take m rows)) (sym (add-one k))
-    ∙ lines_more (v + 1) rows k d (omega arith)) ∙ ap (λ b. (first ∷ lines_from (v + 1) (take k rows)) ++ last b ∷
-    []) same)

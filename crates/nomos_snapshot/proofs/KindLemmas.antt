@@ -3,7 +3,7 @@ use Rattle.std.proofs.Common.{◌≡◌, ◌≢◌, ℕ, List, [], ◌∷◌, dr
 use Rattle.std.specs.Prelude.{MatchOption}
 use Rattle.nomos_ir.specs.Naming.{NamesAreShort}
 use Rattle.nomos_ir.specs.declared.lists.ProgramLists.{ProgramLists}
-use Rattle.nomos_texts.proofs.NamingLaws.{ReadsAs-named}
+use Rattle.nomos_printing.proofs.NamingLaws.{ReadsAs-named}
 use Rattle.nomos_snapshot.specs.Line.{IsLine, line_text, line_words}
 use Rattle.nomos_snapshot.specs.LineWords.{joined, words_in}
 use Rattle.nomos_snapshot.specs.declared.line_kind.LineKind.{LineKind}
@@ -112,11 +112,6 @@ parts : (lists : ProgramLists) (text first : List ℕ) (words : List (List ℕ))
     → first ∷ words ≡ kind_word (kind_of l) ∷ drop 1 (line_words lists l)
 parts lists text first words l short is_words is e =
     sym is_words ∙ ap words_in e ∙ line-words lists l short is ∙ first-word lists l
-
--- no word stands in the text, or none that says a kind
-pub empty-none : (lists : ProgramLists) (text : List ℕ) → words_in text ≡ [] → (l : SnapshotLine) → IsLine lists l
-    → text ≢ line_text lists l
-empty-none lists text none l is e = no-words text none
 
 pub unnamed-none : (lists : ProgramLists) (text first : List ℕ) (words : List (List ℕ)) → NamesAreShort lists
     → words_in text ≡ first ∷ words → kind_named first ≡ None → (l : SnapshotLine) → IsLine lists l

@@ -14,9 +14,9 @@ use Rattle.nomos_ir.specs.declared.mode.Mode.TheVariants as mode
 use Rattle.nomos_machine.specs.declared.object.Payload.{Payload}
 use Rattle.nomos_machine.specs.declared.object.Payload.TheVariants as payload
 use Rattle.nomos_script.specs.ScriptNames.{IsScriptName}
-use Rattle.nomos_texts.specs.Splitting.{Lacks}
-use Rattle.nomos_texts.specs.ValueTexts.{value_text}
-use Rattle.nomos_texts.proofs.SplittingLaws.{Lacks-decimal, Lacks-tested}
+use Rattle.nomos_printing.specs.Splitting.{Lacks}
+use Rattle.nomos_printing.specs.ValueTexts.{value_text}
+use Rattle.nomos_printing.proofs.SplittingLaws.{Lacks-decimal, Lacks-tested}
 use Rattle.nomos_snapshot.specs.Line.{IsLine, IsLinePayload, IsNumberIfAny, label_word, line_text, line_words, mode_word, name_word, payload_words, way_word}
 use Rattle.nomos_snapshot.specs.LineValue.{IsLineValue}
 use Rattle.nomos_snapshot.specs.declared.line.SnapshotLine.{SnapshotLine}

@@ -15,8 +15,8 @@ use Rattle.nomos_ir.specs.declared.mode.Mode.TheVariants as mode
 use Rattle.nomos_machine.specs.declared.object.Message.{Message}
 use Rattle.nomos_machine.specs.declared.object.Payload.{Payload}
 use Rattle.nomos_machine.specs.declared.object.Payload.TheVariants as payload
-use Rattle.nomos_texts.specs.ValueTexts.{value_text}
-use Rattle.nomos_texts.proofs.OneTextLaws.{decimal-only}
+use Rattle.nomos_printing.specs.ValueTexts.{value_text}
+use Rattle.nomos_printing.proofs.OneTextLaws.{decimal-only}
 use Rattle.nomos_snapshot.specs.Line.{IsGas, IsLine, IsLinePayload, IsMessageLine, IsNumber, IsNumberIfAny, IsProcessLine, label_word, line_text, line_words, mode_word, name_word, payload_words, way_word}
 use Rattle.nomos_snapshot.specs.LineWords.{words_in}
 use Rattle.nomos_snapshot.specs.declared.line.SnapshotLine.{SnapshotLine}

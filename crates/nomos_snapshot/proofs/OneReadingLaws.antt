@@ -3,7 +3,7 @@ use Rattle.std.proofs.Common.{◌≡◌, ℕ, ◌+◌, List, [], ◌∷◌, leng
 use Rattle.nomos_ir.specs.Naming.{NamesAreShort, NamesDiffer}
 use Rattle.nomos_ir.specs.declared.lists.ProgramLists.{ProgramLists}
 use Rattle.nomos_legal.specs.Ledger.{LedgerState}
-use Rattle.nomos_texts.proofs.SplittingLaws.{apart-only}
+use Rattle.nomos_printing.proofs.SplittingLaws.{apart-only}
 use Rattle.nomos_types.specs.Acceptance.{Acceptance}
 use Rattle.nomos_machine.specs.declared.object.Object.TheVariants as object
 use Rattle.nomos_machine.specs.declared.object.Process.{Process}

@@ -2,7 +2,7 @@
 use Rattle.std.proofs.Common.{◌≡◌, ◌≢◌, ℕ, ◌-◌, ◌≤◌, List, [], ◌∷◌, ◌++◌, drop, get_or, refl, sym, ◌∙◌, ap, subst, arith, append_assoc, append-nil, Result, Ok, Err, Option, Some, None, IfOk}
 use Rattle.std.specs.Prelude.{codes, MatchOption}
 use Rattle.nomos_ir.specs.Value.{Value, ValueList, int, truth, list, no_values, value, value_list}
-use Rattle.nomos_texts.specs.ValueTexts.{value_text, row_text, tail_text}
+use Rattle.nomos_printing.specs.ValueTexts.{value_text, row_text, tail_text}
 use Rattle.nomos_snapshot.specs.LineValue.{IsLineValue, HasSmallNumbers, HaveSmallNumbers, nesting, nestings}
 use Rattle.nomos_snapshot.specs.mirror.ValueReading.{IsScalar, IsWithin, AreWithin, Ends, BeginsScalar, BeginsValue, HasNoValue, BeginsRow, HasNoRow}
 use Rattle.nomos_snapshot.proofs.ValueLemmas.{inner-only, scalar-inner, scalar-first, value-only, rows-only, row-parts, tail-ends}
@@ -14,14 +14,6 @@ scalar-within : (depth : ℕ) (v : Value) → IsScalar v → IsWithin depth v
 scalar-within depth (int z) is = (is, omega arith)
 scalar-within depth (truth b) is = (tt, omega arith)
 scalar-within depth (list vs) is = absurd is
-
-pub scalar-found : (depth : ℕ) (text word left : List ℕ) (v : Value) → BeginsScalar text word left → IsScalar v
-    → word ≡ value_text v → BeginsValue depth text v left
-scalar-found depth text word left v begins is same = record {
-  within = scalar-within depth v is;
-  ends = begins.ends;
-  joined = begins.joined ∙ ap (λ (t : List ℕ). t ++ left) same;
-}
 
 -- the two ways in which a value begins
 no-scalar : (depth : ℕ) (text word left : List ℕ) → ((rest : List ℕ) → text ≢ codes "[" ++ rest)
@@ -63,16 +55,6 @@ list-begins depth text inner open_is (list vs) back begins = record {
     within = (begins.within.0, omega (arith, begins.within.1));
     joined = ap (λ x. drop 1 x) (sym open_is ∙ begins.joined) ∙ append_assoc (row_text vs) (codes "]") back;
   };
-}
-
-pub list-found : (depth : ℕ) (text inner back : List ℕ) (vs : List Value) → text ≡ codes "[" ++ inner → depth ≢ 0
-    → BeginsRow (depth - 1) inner (value_list vs) back → Ends back → BeginsValue depth text (list (value_list vs)) back
-list-found depth text inner back vs open_is some row ends = record {
-  within = (row.within.0, omega (arith, row.within.1, some));
-  ends = ends;
-  joined =
-      open_is ∙ ap (λ (t : List ℕ). codes "[" ++ t) row.joined
-      ∙ ap (λ (t : List ℕ). 91 ∷ t) (sym (append_assoc (row_text (value_list vs)) (codes "]") back));
 }
 
 pub list-deep : (depth : ℕ) (text inner : List ℕ) → text ≡ codes "[" ++ inner → depth ≡ 0 → HasNoValue depth text
@@ -149,10 +131,6 @@ comma-read depth text left rest more done v read begins comma = record {
       ∙ sym (append_assoc (front_text done) (value_text v ++ 44 ∷ []) more)
       ∙ ap (λ (t : List ℕ). t ++ more) (sym (front-more done v));
 }
-
--- a row behind its first value
-tail-row : (v : Value) (vs : ValueList) → tail_text (value v vs) ≡ 44 ∷ row_text (value v vs)
-tail-row v vs = refl
 
 -- values with a comma behind each, and others, are a row
 front-row : (done : List Value) (v : Value) (vs : ValueList)
@@ -269,14 +247,6 @@ row-closed (Ok (Some p)) now depth text left rest done v open_is read begins no_
 row-closed (Err e) now depth text left rest done v open_is read begins no_comma told = tt
 
 -- ---- whole texts
-
--- a value of a line is one within its depth
-pub value-found : (text left : List ℕ) (v : Value) → BeginsValue 256 text v left → left ≡ []
-    → IsLineValue v × (text ≡ value_text v)
-value-found text left v begins none = (
-  record { small = begins.within.0; nested = begins.within.1 },
-  begins.joined ∙ ap (λ (t : List ℕ). value_text v ++ t) none ∙ append-nil (value_text v),
-)
 
 -- a text that is a value has nothing behind it
 whole : (text : List ℕ) (v : Value) → IsLineValue v → text ≡ value_text v → BeginsValue 256 text v []

@@ -4,8 +4,8 @@ use Rattle.std.proofs.lemmas.List.{length-append}
 use Rattle.std.proofs.lemmas.Bool.{false≢true}
 use Rattle.std.proofs.lemmas.Bool.Decides.{eqb_tells}
 use Rattle.nomos_ir.specs.Naming.{NamesAreShort, NamesDiffer}
-use Rattle.nomos_texts.specs.Splitting.{ComesApart, Lacks}
-use Rattle.nomos_texts.proofs.SplittingLaws.{ComesApart-parts, Lacks-apart}
+use Rattle.nomos_printing.specs.Splitting.{ComesApart, Lacks}
+use Rattle.nomos_printing.proofs.SplittingLaws.{ComesApart-parts, Lacks-apart}
 use Rattle.nomos_types.specs.Acceptance.{Acceptance}
 use Rattle.nomos_snapshot.specs.GatheredLines.{Gathered, Stand, at_head, at_next, at_spent, at_unit, behind, ledger_of}
 use Rattle.nomos_snapshot.specs.Line.{IsLine, line_text}

@@ -8,11 +8,11 @@ use Rattle.std.proofs.lemmas.List.{get_or_append_left}
 use Rattle.std.proofs.lemmas.List.Elements.{All-append, All-nil, All-cons, All-head, All-tail, All-from_get_or}
 use Rattle.std.proofs.lemmas.Str.Parse.{digit_at}
 use Rattle.nomos_ir.specs.Value.{Value, ValueList, int, truth, list, no_values, value}
-use Rattle.nomos_texts.specs.ValueTexts.{value_text, row_text, tail_text}
-use Rattle.nomos_texts.specs.Number.{ReadsNumber}
-use Rattle.nomos_texts.specs.ReadAs.{ReadsAs}
-use Rattle.nomos_texts.proofs.OneTextLaws.{decimal-only}
-use Rattle.nomos_texts.proofs.ReadingLaws.{ReadsAs-none}
+use Rattle.nomos_printing.specs.ValueTexts.{value_text, row_text, tail_text}
+use Rattle.nomos_printing.specs.Number.{ReadsNumber}
+use Rattle.nomos_printing.specs.ReadAs.{ReadsAs}
+use Rattle.nomos_printing.proofs.OneTextLaws.{decimal-only}
+use Rattle.nomos_printing.proofs.ReadingLaws.{ReadsAs-none}
 use Rattle.nomos_snapshot.specs.LineValue.{IsLineNumber, HasSmallNumbers, HaveSmallNumbers}
 use Rattle.nomos_snapshot.specs.mirror.ValueReading.{IsScalar, IsInner, Ends}
 

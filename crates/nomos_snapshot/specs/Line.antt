@@ -13,7 +13,7 @@ use Rattle.nomos_machine.specs.declared.object.Message.{Message}
 use Rattle.nomos_machine.specs.declared.object.Payload.{Payload}
 use Rattle.nomos_machine.specs.declared.object.Payload.TheVariants as payload
 use Rattle.nomos_script.specs.ScriptNames.{IsScriptName}
-use Rattle.nomos_texts.specs.ValueTexts.{value_text}
+use Rattle.nomos_printing.specs.ValueTexts.{value_text}
 use Rattle.nomos_snapshot.specs.LineValue.{IsLineValue}
 use Rattle.nomos_snapshot.specs.LineWords.{joined}
 use Rattle.nomos_snapshot.specs.declared.line.SnapshotLine.{SnapshotLine}

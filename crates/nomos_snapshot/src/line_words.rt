@@ -2,7 +2,7 @@
 ghost use Rattle.std.specs.Prelude.{◌≡◌, ◌∷◌, [], MatchOption};
 ghost use Rattle.nomos_snapshot.specs.LineWords.{words_in};
 
-use nomos_texts::splitting::split_once;
+use nomos_printing::splitting::split_once;
 use std::marker::Model;
 
 /// The words of a line that are left to read: what stands between one blank and the next. Contracts see them as a list.

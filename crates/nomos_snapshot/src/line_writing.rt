@@ -2,7 +2,7 @@
 ghost use Rattle.std.specs.Prelude.{◌≡◌, ◌++◌, ◌∷◌, [], OnOk, codes, decimal, map};
 ghost use Rattle.nomos_ir.specs.declared.lists.ProgramLists.{ProgramLists};
 ghost use Rattle.nomos_ir.specs.Value.{list, value_list};
-ghost use Rattle.nomos_texts.specs.ValueTexts.{value_text};
+ghost use Rattle.nomos_printing.specs.ValueTexts.{value_text};
 ghost use Rattle.nomos_snapshot.specs.Line.{label_word, line_text, mode_word, name_word, way_word};
 ghost use Rattle.nomos_snapshot.specs.LineWords.{joined};
 ghost use Rattle.nomos_snapshot.specs.mirror.WrittenWords.{word_text};
@@ -15,8 +15,8 @@ use nomos_ir::mode::Mode;
 use nomos_ir::program::Program;
 use nomos_ir::value::{Value, Values};
 use nomos_machine::object::{Message, Payload};
-use nomos_texts::number::push_number;
-use nomos_texts::value_texts::push_value;
+use nomos_printing::number::push_number;
+use nomos_printing::value_texts::push_value;
 use std::alloc::AllocError;
 
 /// A word of a line behind its first one.

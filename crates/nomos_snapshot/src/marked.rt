@@ -1,12 +1,12 @@
 //! Numbers behind words that say what they are.
 ghost use Rattle.std.specs.Prelude.{◌≡◌, ◌≢◌, ◌∷◌, ℕ, List, MatchOption, Option, decimal, codes};
-ghost use Rattle.nomos_texts.specs.ReadAs.{ReadsAs};
+ghost use Rattle.nomos_printing.specs.ReadAs.{ReadsAs};
 ghost use Rattle.nomos_snapshot.specs.Line.{IsGas, IsNumber, IsNumberIfAny, name_word};
 
 use crate::line_words::Words;
 use crate::plain_lines::read_gas;
-use nomos_texts::number::read_u32;
-use nomos_texts::splitting::is_word;
+use nomos_printing::number::read_u32;
+use nomos_printing::splitting::is_word;
 
 /// The number behind a word, which are both taken.
 pub(crate) fn number_behind(words: &mut Words<'_>, word: &[u8]) -> Option<u32>

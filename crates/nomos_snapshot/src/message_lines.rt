@@ -3,7 +3,7 @@ ghost use Rattle.std.specs.Prelude.{◌≡◌, ◌≢◌, ◌∷◌, ◌++◌, [
 ghost use Rattle.nomos_ir.specs.declared.ids.Label.{Label as LabelNumber};
 ghost use Rattle.nomos_ir.specs.declared.lists.ProgramLists.{ProgramLists};
 ghost use Rattle.nomos_machine.specs.declared.object.Payload.{Payload as Brought};
-ghost use Rattle.nomos_texts.specs.ReadAs.{ReadsAs};
+ghost use Rattle.nomos_printing.specs.ReadAs.{ReadsAs};
 ghost use Rattle.nomos_snapshot.specs.Line.{IsGas, IsLabel, IsLinePayload, label_word, payload_words, way_word};
 ghost use Rattle.nomos_snapshot.specs.declared.message_lines.MessageHead.{MessageHead as Head};
 ghost use Rattle.nomos_snapshot.specs.mirror.LineKinds.{ReadsWords, IsMessageHead, IsMessageOf, head_words};
@@ -15,8 +15,8 @@ use crate::marked::{gas_behind, read_any_name};
 use crate::value_reading::read_value;
 use nomos_ir::ids::Label;
 use nomos_machine::object::{Message, Payload};
-use nomos_texts::number::read_u32;
-use nomos_texts::splitting::is_word;
+use nomos_printing::number::read_u32;
+use nomos_printing::splitting::is_word;
 use std::alloc::{AllocError, Global};
 
 /// What stands in the line of a message before what it brings.

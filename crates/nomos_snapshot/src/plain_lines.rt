@@ -2,7 +2,7 @@
 ghost use Rattle.std.specs.Prelude.{◌≡◌, ◌≢◌, ◌∷◌, [], ◌≤◌, ◌^◌, ℕ, List, IfOk, MatchOption, decimal};
 ghost use Rattle.nomos_ir.specs.declared.lists.ProgramLists.{ProgramLists};
 ghost use Rattle.nomos_script.specs.ScriptNames.{IsScriptName};
-ghost use Rattle.nomos_texts.specs.ReadAs.{ReadsAs};
+ghost use Rattle.nomos_printing.specs.ReadAs.{ReadsAs};
 ghost use Rattle.nomos_snapshot.specs.Line.{IsGas, IsNext, IsNumber, IsTypeNumber};
 ghost use Rattle.nomos_snapshot.specs.mirror.LineKinds.{ReadsWords, IsAccountLine, IsContractLine, IsHeadLine, IsNameLine, IsNextLine, IsSpentLine, IsUnitLine};
 
@@ -10,9 +10,9 @@ use crate::line::SnapshotLine;
 use crate::line_words::Words;
 use nomos_ir::ids::TypeId;
 use nomos_ir::program::Program;
+use nomos_printing::number::{read_count, read_u32};
+use nomos_printing::splitting::is_word;
 use nomos_script::name::{ScriptName, is_script_name};
-use nomos_texts::number::{read_count, read_u32};
-use nomos_texts::splitting::is_word;
 use std::alloc::{AllocError, Global};
 
 /// More than any number of gas that a snapshot may have.

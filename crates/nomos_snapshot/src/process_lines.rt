@@ -1,7 +1,7 @@
 //! How the lines of processes and of their variables are read.
 ghost use Rattle.std.specs.Prelude.{◌≡◌, ◌≢◌, ◌∷◌, [], ℕ, List, IfOk, MatchOption, decimal};
 ghost use Rattle.nomos_ir.specs.declared.lists.ProgramLists.{ProgramLists};
-ghost use Rattle.nomos_texts.specs.ReadAs.{ReadsAs};
+ghost use Rattle.nomos_printing.specs.ReadAs.{ReadsAs};
 ghost use Rattle.nomos_snapshot.specs.Line.{IsGas, IsNumber, IsPlace, mode_word};
 ghost use Rattle.nomos_snapshot.specs.mirror.LineKinds.{ReadsWords, IsChannelLine, IsListLine, IsProcessOf, IsValueLine};
 
@@ -14,7 +14,7 @@ use nomos_deeds::sight::SeenProcess;
 use nomos_ir::ids::{CodeId, VarId};
 use nomos_ir::mode::Mode;
 use nomos_ir::program::Program;
-use nomos_texts::number::read_u32;
+use nomos_printing::number::read_u32;
 use std::alloc::{AllocError, Global};
 
 // The mode that a word is.

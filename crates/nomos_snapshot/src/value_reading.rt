@@ -3,15 +3,15 @@ ghost use Rattle.std.specs.Prelude.{◌≡◌, ◌≢◌, ◌≤◌, ◌<◌, �
 ghost use Rattle.std.specs.Fmt.{signed_decimal};
 ghost use Rattle.nomos_ir.specs.Value.{Value as Meaning, ValueList, list, value_list};
 ghost use Rattle.nomos_ir.specs.ValueNode.{value_of};
-ghost use Rattle.nomos_texts.specs.ReadAs.{ReadsAs};
-ghost use Rattle.nomos_texts.specs.ValueTexts.{value_text};
+ghost use Rattle.nomos_printing.specs.ReadAs.{ReadsAs};
+ghost use Rattle.nomos_printing.specs.ValueTexts.{value_text};
 ghost use Rattle.nomos_snapshot.specs.LineValue.{IsLineNumber, IsLineValue};
 ghost use Rattle.nomos_snapshot.specs.mirror.ValueReading.{IsScalar, Ends, BeginsScalar, BeginsValue, HasNoValue, BeginsRow, HasNoRow};
 
 use nomos_ir::value::{Value, Values};
 use nomos_ir::value_node::ValueNode;
-use nomos_texts::number::read_number;
-use nomos_texts::splitting::{behind, is_word};
+use nomos_printing::number::read_number;
+use nomos_printing::splitting::{behind, is_word};
 use std::alloc::{AllocError, Global};
 
 /// The most lists of a value that stand in one another.

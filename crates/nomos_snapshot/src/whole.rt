@@ -9,7 +9,7 @@ ghost use Rattle.nomos_snapshot.specs.ToldLines.{IsKept, told};
 use crate::gathered::Gathering;
 use crate::line_reader::LineReader;
 use crate::stand::TextStand;
-use nomos_texts::splitting::split_once;
+use nomos_printing::splitting::split_once;
 use nomos_types::accepted::Accepted;
 use std::alloc::{AllocError, Global};
 

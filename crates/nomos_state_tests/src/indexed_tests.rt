@@ -3,7 +3,7 @@
 use nomos_deeds::machine::Machine;
 use nomos_deeds::sight::Sight;
 use nomos_deeds::undo::Undo;
-use nomos_named::indexed::IndexedState;
+use nomos_state::indexed::IndexedState;
 use std::test::Fail;
 
 #[test]

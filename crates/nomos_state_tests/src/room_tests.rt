@@ -9,8 +9,8 @@ use crate::sharing_tests::{ONCE, OPPOSITE};
 use nomos_deeds::fire::Fire;
 use nomos_deeds::machine::Machine;
 use nomos_deeds::undo::Undo;
-use nomos_named::indexed::IndexedState;
 use nomos_plain::plain::PlainState;
+use nomos_state::indexed::IndexedState;
 use std::process::Abort;
 use std::test::Fail;
 

@@ -3,7 +3,6 @@ pub mod SpellingLemmas
 pub mod ScanLemmas
 pub mod WordLemmas
 pub mod NameLaws
-pub mod OffsetLemmas
 pub mod Examples
 pub mod BeginningLemmas
 pub mod TakenLemmas

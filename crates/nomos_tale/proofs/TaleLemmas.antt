@@ -24,11 +24,6 @@ use Rattle.nomos_tale.specs.mirror.Tales.{HasTold, IsTold, no_texts}
 
 -- ---- an item
 
--- an item without firings was told
-pub still-told : {M : Type 0} {before after : WalkState} {l : LedgerState} {i : ScriptItem} {passed : PassedItem M}
-    → PassesStill before l i passed after → IsTold before l i passed after
-still-told passes = record { passage = passes.passage; passes = still-passes passes }
-
 -- a batch that was run and finished was told
 pub batch-told : {M : Type 0} {before after : WalkState} {l : LedgerState} {i : ScriptItem} {line spent : ℕ}
     (a : Acceptance) (limit : ℕ) (w v begun ran : WorldState) (e : End) (passed : PassedItem M)

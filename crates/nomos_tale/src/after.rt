@@ -5,7 +5,7 @@ use nomos_deeds::sight::Sight;
 use nomos_ir::code_node::{Chan, CodeNode};
 use nomos_ir::ids::{CodeId, VarId};
 use nomos_ir::value::Value;
-use nomos_texts::value_texts::push_value;
+use nomos_printing::value_texts::push_value;
 use std::alloc::AllocError;
 
 /// How far a state was before a firing: the number of its next object, and how many values were emitted.

@@ -8,7 +8,7 @@ use nomos_deeds::sight::{SeenPayload, Sight};
 use nomos_ir::amount::Amount;
 use nomos_ir::code_node::{Chan, CodeNode};
 use nomos_ir::ids::{Label, ProcId, VarId};
-use nomos_texts::number::push_number;
+use nomos_printing::number::push_number;
 use nomos_types::accepted::Accepted;
 use std::alloc::AllocError;
 

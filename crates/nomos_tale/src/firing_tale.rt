@@ -19,7 +19,7 @@ use nomos_deeds::undo::Undo;
 use nomos_ir::code_node::CodeNode;
 use nomos_ledger::watched::Watched;
 use nomos_legal::journal::{End, Firing};
-use nomos_texts::number::push_number;
+use nomos_printing::number::push_number;
 use nomos_types::accepted::Accepted;
 use std::alloc::{AllocError, Global};
 

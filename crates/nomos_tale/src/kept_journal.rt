@@ -7,7 +7,7 @@ use nomos_ir::limits::HIGHEST_LIMIT;
 use nomos_journal::line::{JournalLine, Version};
 use nomos_journal::read::read_line;
 use nomos_journal::text::{TextLine, TextLines};
-use nomos_texts::splitting::{behind, is_word};
+use nomos_printing::splitting::{behind, is_word};
 use std::alloc::{AllocError, Global};
 
 /// A journal that is kept: its version, the next line, if there is one, with its number, and the lines behind it.

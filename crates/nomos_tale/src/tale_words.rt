@@ -7,7 +7,7 @@ ghost use Rattle.nomos_machine.specs.Step.{IsReady};
 use nomos_deeds::sight::Sight;
 use nomos_ir::code_node::{Chan, CodeNode};
 use nomos_ir::find::find_code;
-use nomos_texts::number::push_number;
+use nomos_printing::number::push_number;
 use nomos_types::accepted::Accepted;
 use std::alloc::AllocError;
 

@@ -9,7 +9,7 @@ use crate::tale_words::push_pair;
 use crate::untold::Untold;
 use nomos_ir::limits::USUAL_LIMIT;
 use nomos_legal::journal::End;
-use nomos_texts::end::push_end;
+use nomos_printing::end::push_end;
 use std::alloc::{AllocError, Global};
 
 /// The tale so far, and how a process is chosen.

@@ -9,21 +9,9 @@ use crate::failure::Failure;
 use crate::telling::{Texts, tale_of};
 use crate::words::{TellCall, call_of};
 use nomos_base::write_all;
-use nomos_files::{FileSource, OutputSink};
-use std::alloc::{AllocError, AllocGlobal};
-use std::env::Env;
-use std::io::ErrorKind;
+use nomos_files::{FileSource, OutputSink, own_words};
+use std::alloc::AllocGlobal;
 use std::process::ExitCode;
-
-// The words after the program's own name. Where one of them is no text, they have no form, and so has
-// the empty list that is given then.
-fn own_words<R: Env + AllocGlobal>(rt: &R) -> Result<Vec<String>, AllocError> {
-    match std::env::args(rt) {
-        Ok(words) => words.skip(1).collect(rt.alloc()),
-        Err(error) if error.kind() == ErrorKind::InvalidData => Ok(Vec::new(rt.alloc())),
-        Err(_) => Err(AllocError),
-    }
-}
 
 fn main(rt: HostRuntime) -> ExitCode {
     let Ok(words) = own_words(&rt) else {

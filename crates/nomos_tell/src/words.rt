@@ -3,7 +3,7 @@ ghost use Rattle.std.specs.Prelude.{IfSome};
 ghost use Rattle.nomos_legal.specs.Legal.{IsLimit};
 
 use nomos_ir::limits::HIGHEST_LIMIT;
-use nomos_texts::number::{read_u32, read_u64};
+use nomos_printing::number::{read_u32, read_u64};
 
 /// In which order the script is run, as words say.
 #[derive(Clone, Copy, Debug)]

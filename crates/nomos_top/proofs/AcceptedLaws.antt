@@ -3,10 +3,10 @@ use Rattle.std.proofs.Common.{◌≡◌, ◌≢◌, ◌∙◌, ◌⊎◌, inl, i
 use Rattle.std.specs.Prelude.{codes}
 use Rattle.nomos_accept.specs.AcceptedText.{PivotRunEndsWith}
 use Rattle.nomos_accept.specs.TypedText.{IsTypedAs}
-use Rattle.nomos_due.proofs.ReplayLaws.{legal-not_refused}
-use Rattle.nomos_due.specs.DueLines.{read_fault_line}
-use Rattle.nomos_due.specs.Outside.{HaveRisen}
-use Rattle.nomos_due.specs.RunsDue.{HasRun, usual_orders}
+use Rattle.nomos_answers.proofs.ReplayLaws.{legal-not_refused}
+use Rattle.nomos_answers.specs.DueLines.{read_fault_line}
+use Rattle.nomos_answers.specs.Outside.{HaveRisen}
+use Rattle.nomos_answers.specs.RunsDue.{HasRun, usual_orders}
 use Rattle.nomos_ir.specs.declared.lists.ProgramLists.{ProgramLists}
 use Rattle.nomos_least.specs.LeastBounds.{LeastRunEndsWith}
 use Rattle.nomos_journal.specs.JournalText.{IsTextOf}

@@ -1,8 +1,8 @@
 -- What a call leaves as it was.
 use Rattle.std.proofs.Common.{◌≡◌, ◌≢◌, ◌∙◌, ◌⊎◌, inl, inr, ℕ, List, Option, Some, None, Result, Ok, Err, refl, sym, subst, arith}
 use Rattle.std.specs.Prelude.{IfOk, IfErr}
-use Rattle.nomos_due.specs.Outside.{SinkState}
-use Rattle.nomos_due.specs.Sources.{kept_text}
+use Rattle.nomos_answers.specs.Outside.{SinkState}
+use Rattle.nomos_answers.specs.Sources.{kept_text}
 use Rattle.nomos_top.specs.Seen.{Call, IsDone}
 use Rattle.nomos_top.specs.Outcome.{Inputs, Outcome}
 use Rattle.nomos_top.specs.Tasks.{Keeps, ReadsSnapshot, Waits}

@@ -3,15 +3,15 @@ use Rattle.std.proofs.Common.{◌≡◌, ℕ, ◌<◌, List, length, Option, Som
 use Rattle.std.specs.Prelude.{IfOk, IfErr}
 use Rattle.nomos_accept.specs.AcceptedText.{IsAcceptedAs, IsRefused}
 use Rattle.nomos_accept.specs.declared.why.Why.TheVariants as why
-use Rattle.nomos_due.proofs.SourceLemmas.{some_text}
-use Rattle.nomos_due.specs.Benches.{IsBenchDue, IsBenchPart, load_contract}
-use Rattle.nomos_due.specs.Outside.{HasText, HaveRisen, SourceState}
-use Rattle.nomos_due.specs.Replays.{no_journal}
-use Rattle.nomos_due.specs.RunsDue.{IsRunDue, IsRunPart, usual_orders}
-use Rattle.nomos_due.specs.Sources.{IsPoolDueFor, IsPoolPartFor, IsReplayDueFor, IsResumeDueFor, IsResumePartFor, IsRunDueFor, IsRunPartFor, IsSaveDueFor, IsTalkDueFor, kept_text}
-use Rattle.nomos_due.specs.declared.due.Due.{Due}
-use Rattle.nomos_due.specs.declared.pools.PoolDue.{PoolDue}
-use Rattle.nomos_due.specs.declared.pools.PoolPart.{PoolPart}
+use Rattle.nomos_answers.proofs.SourceLemmas.{some_text}
+use Rattle.nomos_answers.specs.Benches.{IsBenchDue, IsBenchPart, load_contract}
+use Rattle.nomos_answers.specs.Outside.{HasText, HaveRisen, SourceState}
+use Rattle.nomos_answers.specs.Replays.{no_journal}
+use Rattle.nomos_answers.specs.RunsDue.{IsRunDue, IsRunPart, usual_orders}
+use Rattle.nomos_answers.specs.Sources.{IsPoolDueFor, IsPoolPartFor, IsReplayDueFor, IsResumeDueFor, IsResumePartFor, IsRunDueFor, IsRunPartFor, IsSaveDueFor, IsTalkDueFor, kept_text}
+use Rattle.nomos_answers.specs.declared.due.Due.{Due}
+use Rattle.nomos_answers.specs.declared.pools.PoolDue.{PoolDue}
+use Rattle.nomos_answers.specs.declared.pools.PoolPart.{PoolPart}
 use Rattle.nomos_least.specs.LeastBounds.{IsLeastAs}
 use Rattle.nomos_least.specs.declared.least.LeastBounds.{LeastBounds}
 use Rattle.nomos_legal.specs.declared.journal.Journal.{Journal}

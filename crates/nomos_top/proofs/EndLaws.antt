@@ -1,8 +1,8 @@
 -- What is read off the ways in which a call ends.
 use Rattle.std.proofs.Common.{◌≡◌, ◌≢◌, ◌∙◌, ◌⊎◌, inl, inr, ℕ, List, true, false, true≢false, Option, Some, None, refl, sym, subst, arith}
-use Rattle.nomos_due.specs.DueLines as lines
-use Rattle.nomos_due.specs.DueLines.{IsNoScript}
-use Rattle.nomos_due.specs.Outside.{Input}
+use Rattle.nomos_answers.specs.DueLines as lines
+use Rattle.nomos_answers.specs.DueLines.{IsNoScript}
+use Rattle.nomos_answers.specs.Outside.{Input}
 use Rattle.nomos_script.proofs.ReadingLaws.{reads_without_syntax}
 use Rattle.nomos_script.specs.ScriptReading.{ReadsAs}
 use Rattle.nomos_script.specs.declared.item.ScriptItem.{ScriptItem}

@@ -2,7 +2,7 @@
 use Rattle.std.proofs.Common.{◌≡◌, ◌≢◌, ◌∙◌, ◌⊎◌, inl, inr, ℕ, List, [], ◌∷◌, ◌++◌, Option, Some, None, refl, sym, subst, arith}
 use Rattle.std.proofs.lemmas.List.Elements.{All-nil, All-cons}
 use Rattle.std.specs.Option.{option_to_list}
-use Rattle.nomos_due.specs.Outside.{HaveRisen}
+use Rattle.nomos_answers.specs.Outside.{HaveRisen}
 use Rattle.nomos_legal.proofs.DepositLaws.{front-deposits-from, tells-deposits-from}
 use Rattle.nomos_legal.proofs.RightLaws.{legal-right-from}
 use Rattle.nomos_legal.proofs.UniqueLaws.{tells-one}

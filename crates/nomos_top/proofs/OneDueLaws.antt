@@ -1,10 +1,10 @@
 -- Of one ledger, text or script one thing is told: where it begins, what is carried out, what is saved, and what is
 -- said.
 use Rattle.std.proofs.Common.{◌≡◌, ◌∙◌, ℕ, List, Bool, Option, Some, None, Result, Ok, Err, refl, sym, subst, arith}
-use Rattle.nomos_due.specs.Outside.{Input}
-use Rattle.nomos_due.specs.RunsDue.{HasRunFrom, usual_orders}
-use Rattle.nomos_due.specs.TalkDue as talking
-use Rattle.nomos_due.specs.TalkDue.{IsNoTalk}
+use Rattle.nomos_answers.specs.Outside.{Input}
+use Rattle.nomos_answers.specs.RunsDue.{HasRunFrom, usual_orders}
+use Rattle.nomos_answers.specs.TalkDue as talking
+use Rattle.nomos_answers.specs.TalkDue.{IsNoTalk}
 use Rattle.nomos_legal.proofs.OneJournalLaws.{follows-one_journal}
 use Rattle.nomos_legal.specs.Ledger.{LedgerState}
 use Rattle.nomos_legal.specs.Passage.{Passage}

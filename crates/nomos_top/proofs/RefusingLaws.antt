@@ -2,10 +2,10 @@
 use Rattle.std.proofs.Common.{◌≡◌, ◌≢◌, ◌∙◌, ◌⊎◌, inl, inr, ℕ, List, Option, Some, None, Ok, Err, refl, sym, subst, arith}
 use Rattle.nomos_accept.specs.AcceptedText.{IsCauseOf, IsRefused}
 use Rattle.nomos_accept.specs.declared.why.Why.{Why}
-use Rattle.nomos_due.proofs.ReplayLaws.{legal-not_refused}
-use Rattle.nomos_due.specs.Pools.{pool_refusal}
-use Rattle.nomos_due.specs.RunsDue.{HasRun, usual_orders}
-use Rattle.nomos_due.specs.SnapshotLines.{unloaded_line, unsaved_line}
+use Rattle.nomos_answers.proofs.ReplayLaws.{legal-not_refused}
+use Rattle.nomos_answers.specs.Pools.{pool_refusal}
+use Rattle.nomos_answers.specs.RunsDue.{HasRun, usual_orders}
+use Rattle.nomos_answers.specs.SnapshotLines.{unloaded_line, unsaved_line}
 use Rattle.nomos_legal.specs.Ledger.{LedgerState, empty_ledger}
 use Rattle.nomos_legal.specs.declared.journal.Journal.{Journal}
 use Rattle.nomos_pool.proofs.PooledLaws.{refused-alone}

@@ -2,14 +2,14 @@
 use Rattle.std.proofs.Common.{◌≡◌, ◌∙◌, ◌⊎◌, inl, inr, ℕ, List, ◌++◌, length, Bool, Option, Some, None, Ok, Err, refl, sym, ap, subst, arith}
 use Rattle.std.specs.Prelude.{codes, decimal}
 use Rattle.nomos_accept.proofs.RowListLaws.{ends-once}
-use Rattle.nomos_due.proofs.ReplayLaws.{legal-not_refused, legal-one}
-use Rattle.nomos_due.specs.DueLines as lines
-use Rattle.nomos_due.specs.DueLines.{IsNoScript, script_refusal}
-use Rattle.nomos_due.specs.Outside.{Input}
-use Rattle.nomos_due.specs.RunsDue.{HasRun, usual_orders}
-use Rattle.nomos_due.specs.SnapshotLines.{unloaded_line, unsaved_line}
-use Rattle.nomos_due.specs.TalkDue as talking
-use Rattle.nomos_due.specs.TalkDue.{IsNoTalk, talk_status}
+use Rattle.nomos_answers.proofs.ReplayLaws.{legal-not_refused, legal-one}
+use Rattle.nomos_answers.specs.DueLines as lines
+use Rattle.nomos_answers.specs.DueLines.{IsNoScript, script_refusal}
+use Rattle.nomos_answers.specs.Outside.{Input}
+use Rattle.nomos_answers.specs.RunsDue.{HasRun, usual_orders}
+use Rattle.nomos_answers.specs.SnapshotLines.{unloaded_line, unsaved_line}
+use Rattle.nomos_answers.specs.TalkDue as talking
+use Rattle.nomos_answers.specs.TalkDue.{IsNoTalk, talk_status}
 use Rattle.nomos_least.proofs.OneLeastLaws.{least_ends-once}
 use Rattle.nomos_least.specs.LeastBounds.{IsLeastAs}
 use Rattle.nomos_least.specs.declared.least.LeastBounds.{LeastBounds}

@@ -2,8 +2,8 @@
 use Rattle.std.proofs.Common.{◌≡◌, ◌≢◌, ◌∙◌, ◌⊎◌, inl, inr, ℕ, List, [], ◌++◌, Option, Some, None, Err, refl, sym, subst, ap, append-nil}
 use Rattle.std.proofs.lemmas.List.{append_cancel_left}
 use Rattle.nomos_base.specs.Sink.{with_end}
-use Rattle.nomos_due.proofs.ReplayLaws.{legal-not_refused, legal-one}
-use Rattle.nomos_due.specs.Written.{with_text}
+use Rattle.nomos_answers.proofs.ReplayLaws.{legal-not_refused, legal-one}
+use Rattle.nomos_answers.specs.Written.{with_text}
 use Rattle.nomos_journal.specs.JournalText.{IsTextOf}
 use Rattle.nomos_journal.specs.declared.line.Version.TheVariants as version
 use Rattle.nomos_legal.proofs.UniqueLaws.{tells-one}

@@ -1,7 +1,7 @@
 -- What is due is written, and nothing else.
 use Rattle.std.proofs.Common.{◌≡◌, ◌≢◌, ◌∙◌, ◌⊎◌, inl, inr, ℕ, List, Option, Some, None, refl, sym, subst, ap, arith}
-use Rattle.nomos_due.specs.Outside.{HaveRisen}
-use Rattle.nomos_due.specs.Written.{with_text}
+use Rattle.nomos_answers.specs.Outside.{HaveRisen}
+use Rattle.nomos_answers.specs.Written.{with_text}
 use Rattle.nomos_least.specs.LeastBounds.{IsLeastAs}
 use Rattle.nomos_least.specs.declared.least.LeastBounds.{LeastBounds}
 use Rattle.nomos_legal.specs.Ledger.{LedgerState}

@@ -2,7 +2,7 @@
 use Rattle.std.proofs.Common.{◌≡◌, ◌≢◌, ◌∙◌, ◌⊎◌, inl, inr, ℕ, List, Bool, true, false, refl, sym, arith}
 use Rattle.std.specs.List.{list_all}
 use Rattle.std.specs.Prelude.{if◌then◌else◌}
-use Rattle.nomos_due.specs.TalkDue.{talk_status}
+use Rattle.nomos_answers.specs.TalkDue.{talk_status}
 use Rattle.nomos_legal.specs.declared.journal.Entry.{Entry}
 use Rattle.nomos_report.specs.Reported.{is_well, run_status}
 use Rattle.nomos_top.specs.Seen.{IsDone}

@@ -1,7 +1,7 @@
 -- What the task of a call asks for rules out what else it could.
 use Rattle.std.proofs.Common.{◌≡◌, ◌⊎◌, inl, inr, ℕ, List, Option, Some, None, Ok, refl, subst}
 use Rattle.nomos_accept.specs.AcceptedText.{IsAcceptedAs}
-use Rattle.nomos_due.specs.RunsDue.{HasRun, usual_orders}
+use Rattle.nomos_answers.specs.RunsDue.{HasRun, usual_orders}
 use Rattle.nomos_legal.specs.Ledger.{LedgerState, empty_ledger}
 use Rattle.nomos_legal.specs.Legal.{FollowPolicy, TellsFrom}
 use Rattle.nomos_legal.specs.Passage.{Passage}

@@ -4,26 +4,26 @@ use Rattle.std.specs.Prelude.{codes, is_some}
 use Rattle.nomos_accept.specs.AcceptedText.{IsRefused}
 use Rattle.nomos_accept.specs.declared.why.Why.{Why}
 use Rattle.nomos_base.specs.Sink.{with_end, AppendsSome}
-use Rattle.nomos_due.specs.Benches as benches
-use Rattle.nomos_due.specs.Benches.{IsBenchDue, IsBenchPart}
-use Rattle.nomos_due.specs.DueLines as lines
-use Rattle.nomos_due.specs.DueLines.{IsNoScript, read_fault_line}
-use Rattle.nomos_due.specs.Outside.{HaveRisen, SinkState}
-use Rattle.nomos_due.specs.Pools as pools
-use Rattle.nomos_due.specs.Pools.{IsPoolDue, IsPoolPart, pool_refusal}
-use Rattle.nomos_due.specs.Replays as replays
-use Rattle.nomos_due.specs.Replays.{IsJournalDue, IsReplayDue}
-use Rattle.nomos_due.specs.Resumes as resumes
-use Rattle.nomos_due.specs.Resumes.{IsNoLedger, IsResumeDue, IsResumePart}
-use Rattle.nomos_due.specs.RunsDue as runs
-use Rattle.nomos_due.specs.RunsDue.{HasRun, IsRunDue, IsRunPart, usual_orders}
-use Rattle.nomos_due.specs.Saves as saving
-use Rattle.nomos_due.specs.Saves.{IsSaveDue}
-use Rattle.nomos_due.specs.SnapshotLines.{unloaded_line, unsaved_line}
-use Rattle.nomos_due.specs.TalkDue as talking
-use Rattle.nomos_due.specs.TalkDue.{IsNoTalk, IsTalkDue, talk_status}
-use Rattle.nomos_due.specs.Written as writing
-use Rattle.nomos_due.specs.Written.{HasWrittenOut, with_text}
+use Rattle.nomos_answers.specs.Benches as benches
+use Rattle.nomos_answers.specs.Benches.{IsBenchDue, IsBenchPart}
+use Rattle.nomos_answers.specs.DueLines as lines
+use Rattle.nomos_answers.specs.DueLines.{IsNoScript, read_fault_line}
+use Rattle.nomos_answers.specs.Outside.{HaveRisen, SinkState}
+use Rattle.nomos_answers.specs.Pools as pools
+use Rattle.nomos_answers.specs.Pools.{IsPoolDue, IsPoolPart, pool_refusal}
+use Rattle.nomos_answers.specs.Replays as replays
+use Rattle.nomos_answers.specs.Replays.{IsJournalDue, IsReplayDue}
+use Rattle.nomos_answers.specs.Resumes as resumes
+use Rattle.nomos_answers.specs.Resumes.{IsNoLedger, IsResumeDue, IsResumePart}
+use Rattle.nomos_answers.specs.RunsDue as runs
+use Rattle.nomos_answers.specs.RunsDue.{HasRun, IsRunDue, IsRunPart, usual_orders}
+use Rattle.nomos_answers.specs.Saves as saving
+use Rattle.nomos_answers.specs.Saves.{IsSaveDue}
+use Rattle.nomos_answers.specs.SnapshotLines.{unloaded_line, unsaved_line}
+use Rattle.nomos_answers.specs.TalkDue as talking
+use Rattle.nomos_answers.specs.TalkDue.{IsNoTalk, IsTalkDue, talk_status}
+use Rattle.nomos_answers.specs.Written as writing
+use Rattle.nomos_answers.specs.Written.{HasWrittenOut, with_text}
 use Rattle.nomos_least.specs.LeastBounds.{IsLeastAs}
 use Rattle.nomos_least.specs.declared.least.LeastBounds.{LeastBounds}
 use Rattle.nomos_legal.specs.Ledger.{LedgerState, empty_ledger}

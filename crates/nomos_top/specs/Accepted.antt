@@ -1,7 +1,7 @@
 -- What is accepted is typed.
 use Rattle.std.specs.Prelude.{◌≡◌, ◌≢◌, ◌⊎◌, ℕ, codes}
-use Rattle.nomos_due.specs.DueLines.{read_fault_line}
-use Rattle.nomos_due.specs.Outside.{HaveRisen}
+use Rattle.nomos_answers.specs.DueLines.{read_fault_line}
+use Rattle.nomos_answers.specs.Outside.{HaveRisen}
 use Rattle.nomos_top.specs.Seen.{Call, Texts, HasWritten, Gives}
 use Rattle.nomos_top.specs.TaskRuns.{IsGivenFor}
 use Rattle.nomos_top.specs.Tasks.{IsAlone, contract_of}

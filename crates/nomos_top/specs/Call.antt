@@ -1,7 +1,7 @@
 -- How one call of `nomos` ends.
 use Rattle.std.specs.Prelude.{◌≡◌, ◌⊎◌, ℕ, List, Option, Some}
-use Rattle.nomos_due.specs.Outside.{input_of}
-use Rattle.nomos_due.specs.Written.{HasWrittenOut}
+use Rattle.nomos_answers.specs.Outside.{input_of}
+use Rattle.nomos_answers.specs.Written.{HasWrittenOut}
 use Rattle.nomos_top.specs.Outcome.{Inputs, Outcome, IsDue, IsPart}
 use Rattle.nomos_top.specs.Seen.{Call, Texts, AreTold}
 use Rattle.nomos_types.specs.Acceptance.{Acceptance, IsAccepted}

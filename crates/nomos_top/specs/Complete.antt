@@ -2,7 +2,7 @@
 use Rattle.std.specs.Prelude.{◌≡◌, ◌≢◌, ◌⊎◌, ℕ, List, Ok, Err}
 use Rattle.nomos_accept.specs.AcceptedText.{PivotRunEndsWith}
 use Rattle.nomos_accept.specs.TypedText.{IsTypedAs}
-use Rattle.nomos_due.specs.RunsDue.{HasRun, usual_orders}
+use Rattle.nomos_answers.specs.RunsDue.{HasRun, usual_orders}
 use Rattle.nomos_ir.specs.declared.lists.ProgramLists.{ProgramLists}
 use Rattle.nomos_journal.specs.JournalText.{IsTextOf}
 use Rattle.nomos_journal.specs.declared.line.Version.{Version}

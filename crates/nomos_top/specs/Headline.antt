@@ -54,7 +54,7 @@ BeginsBy _ a text first = first ≡ empty_ledger
 abbrev pub BeginsAt : Task → Acceptance → Texts → LedgerState → Type 0
 BeginsAt task a t first = BeginsBy (row task).third a t.third first
 
--- the items that are carried out: those that were taken, where threads submit, and otherwise those as which the text
+-- the items that are run: those that were taken, where threads submit, and otherwise those as which the text
 -- reads
 abbrev pub CarriesBy : Option ℕ → Option (List ScriptItem) → List ℕ → List ScriptItem → Type 0
 CarriesBy (Some threads) taken text items = taken ≡ Some items

@@ -1,6 +1,6 @@
 -- The journal of a call: every one is legal, goes right, and with one worker follows the policy.
 use Rattle.std.specs.Prelude.{◌≡◌, ◌≢◌, ◌⊎◌, ℕ, List, take}
-use Rattle.nomos_due.specs.Outside.{HaveRisen}
+use Rattle.nomos_answers.specs.Outside.{HaveRisen}
 use Rattle.nomos_journal.specs.JournalText.{IsTextOf}
 use Rattle.nomos_journal.specs.declared.line.Version.{Version}
 use Rattle.nomos_legal.specs.Ledger.{LedgerState}

@@ -2,15 +2,15 @@
 use Rattle.std.specs.Prelude.{ℕ, List, Option, Some, None, codes}
 use Rattle.nomos_accept.specs.AcceptedText.{IsAcceptedAs, IsRefused}
 use Rattle.nomos_accept.specs.declared.why.Why.{Why}
-use Rattle.nomos_due.specs.Benches.{IsBenchDue, IsBenchPart, load_contract}
-use Rattle.nomos_due.specs.DueLines.{no_entries, read_fault_line}
-use Rattle.nomos_due.specs.Outside.{HaveRisen, Input}
-use Rattle.nomos_due.specs.Pools.{IsPoolDue, IsPoolPart}
-use Rattle.nomos_due.specs.Replays.{IsReplayDue, no_journal}
-use Rattle.nomos_due.specs.Resumes.{IsResumeDue, IsResumePart}
-use Rattle.nomos_due.specs.RunsDue.{IsRunDue, IsRunPart, usual_orders}
-use Rattle.nomos_due.specs.Saves.{IsSaveDue}
-use Rattle.nomos_due.specs.TalkDue.{IsTalkDue}
+use Rattle.nomos_answers.specs.Benches.{IsBenchDue, IsBenchPart, load_contract}
+use Rattle.nomos_answers.specs.DueLines.{no_entries, read_fault_line}
+use Rattle.nomos_answers.specs.Outside.{HaveRisen, Input}
+use Rattle.nomos_answers.specs.Pools.{IsPoolDue, IsPoolPart}
+use Rattle.nomos_answers.specs.Replays.{IsReplayDue, no_journal}
+use Rattle.nomos_answers.specs.Resumes.{IsResumeDue, IsResumePart}
+use Rattle.nomos_answers.specs.RunsDue.{IsRunDue, IsRunPart, usual_orders}
+use Rattle.nomos_answers.specs.Saves.{IsSaveDue}
+use Rattle.nomos_answers.specs.TalkDue.{IsTalkDue}
 use Rattle.nomos_least.specs.LeastBounds.{IsLeastAs}
 use Rattle.nomos_least.specs.declared.least.LeastBounds.{LeastBounds}
 use Rattle.nomos_legal.specs.declared.journal.Journal.{Journal}

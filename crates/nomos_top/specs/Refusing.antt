@@ -5,12 +5,12 @@ use Rattle.nomos_accept.specs.AcceptedText.{IsAcceptedAs, IsCauseOf, IsRefused, 
 use Rattle.nomos_accept.specs.TypedText.{IsReadAs, IsNeverTypedText}
 use Rattle.nomos_accept.specs.Causes.{SameCause}
 use Rattle.nomos_accept.specs.declared.why.Why.{Why}
-use Rattle.nomos_due.specs.DueLines.{IsNoScript}
-use Rattle.nomos_due.specs.Outside.{input_of}
-use Rattle.nomos_due.specs.Pools.{pool_refusal}
-use Rattle.nomos_due.specs.RunsDue.{HasRun, usual_orders}
-use Rattle.nomos_due.specs.SnapshotLines.{unloaded_line, unsaved_line}
-use Rattle.nomos_due.specs.TalkDue.{IsNoTalk}
+use Rattle.nomos_answers.specs.DueLines.{IsNoScript}
+use Rattle.nomos_answers.specs.Outside.{input_of}
+use Rattle.nomos_answers.specs.Pools.{pool_refusal}
+use Rattle.nomos_answers.specs.RunsDue.{HasRun, usual_orders}
+use Rattle.nomos_answers.specs.SnapshotLines.{unloaded_line, unsaved_line}
+use Rattle.nomos_answers.specs.TalkDue.{IsNoTalk}
 use Rattle.nomos_ir.specs.Amounts.{star_count}
 use Rattle.nomos_ir.specs.declared.lists.ProgramLists.{ProgramLists}
 use Rattle.nomos_least.specs.LeastBounds.{LeastRunEndsWith}

@@ -1,6 +1,6 @@
 -- Calls that end alike: of the same words, on the same texts, where nobody is waited for.
 use Rattle.std.specs.Prelude.{◌≡◌, ◌⊎◌, ℕ, List, Option}
-use Rattle.nomos_due.specs.Written.{with_text}
+use Rattle.nomos_answers.specs.Written.{with_text}
 use Rattle.nomos_top.specs.Call.{EndsOn}
 use Rattle.nomos_top.specs.Replaying.{DoesTheSame}
 use Rattle.nomos_top.specs.Seen.{Call, Texts, Fails}

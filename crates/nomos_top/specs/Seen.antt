@@ -1,7 +1,7 @@
 -- One call of `nomos`, as it is seen from outside.
 use Rattle.std.specs.Prelude.{◌≡◌, ◌⊎◌, ℕ, List, Option, Some}
 use Rattle.nomos_base.specs.Sink.{with_end}
-use Rattle.nomos_due.specs.Outside.{HasText, SourceState, SinkState}
+use Rattle.nomos_answers.specs.Outside.{HasText, SourceState, SinkState}
 use Rattle.nomos_legal.specs.declared.journal.Journal.{Journal}
 use Rattle.nomos_script.specs.declared.item.ScriptItem.{ScriptItem}
 use Rattle.nomos_types.specs.Acceptance.{Acceptance}

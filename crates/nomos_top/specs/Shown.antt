@@ -1,9 +1,9 @@
 -- What is written, and what stays as it was.
 use Rattle.std.specs.Prelude.{◌≡◌, ◌≢◌, ◌⊎◌, ℕ, List, Option, Some, None, codes}
 use Rattle.nomos_base.specs.Sink.{AppendsSome}
-use Rattle.nomos_due.specs.Benches.{figures_of}
-use Rattle.nomos_due.specs.DueLines.{read_fault_line}
-use Rattle.nomos_due.specs.Outside.{HaveRisen}
+use Rattle.nomos_answers.specs.Benches.{figures_of}
+use Rattle.nomos_answers.specs.DueLines.{read_fault_line}
+use Rattle.nomos_answers.specs.Outside.{HaveRisen}
 use Rattle.nomos_least.specs.LeastBounds.{IsLeastAs}
 use Rattle.nomos_least.specs.declared.least.LeastBounds.{LeastBounds}
 use Rattle.nomos_legal.specs.Ledger.{LedgerState}

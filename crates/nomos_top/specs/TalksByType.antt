@@ -1,7 +1,7 @@
 -- What a party from outside says and hears is what the type of its channel allows, and nothing goes wrong meanwhile.
 use Rattle.std.specs.Prelude.{◌≡◌, ℕ, ◌*◌, ◌++◌, Bool, List, Some}
 use Rattle.nomos_deeds.specs.Firings.{HaveOneOwner}
-use Rattle.nomos_due.specs.TalkDue.{talk_status}
+use Rattle.nomos_answers.specs.TalkDue.{talk_status}
 use Rattle.nomos_legal.specs.Ledger.{LedgerState, account_of}
 use Rattle.nomos_machine.specs.OutsideTalk.{IsOutsideBy, TalksTo}
 use Rattle.nomos_machine.specs.State.{State, gas_of}

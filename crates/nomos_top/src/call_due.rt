@@ -1,12 +1,12 @@
 //! What is due of a call: what is to be written, the status, the journal, and what is accepted.
 
 ghost use Rattle.std.specs.Prelude.{◌≡◌, None, IfOk, IfErr};
-ghost use Rattle.nomos_due.specs.Replays.{no_journal};
+ghost use Rattle.nomos_answers.specs.Replays.{no_journal};
 ghost use Rattle.nomos_top.specs.Outcome.{bare, given};
 ghost use Rattle.nomos_top.specs.mirror.Judging.{IsNothing, behind_of, outcome_of, pooled_behind_of};
 
-use nomos_due::due::{Due, no_entries};
-use nomos_due::pools::{PoolDue, PoolPart};
+use nomos_answers::due::{Due, no_entries};
+use nomos_answers::pools::{PoolDue, PoolPart};
 use nomos_ir::limits::USUAL_LIMIT;
 use nomos_legal::journal::Journal;
 use nomos_script::script::Script;

@@ -1,8 +1,8 @@
 //! What is due where a contract alone is asked about.
 
 ghost use Rattle.std.specs.Prelude.{◌≡◌, ℕ, List, None, IfOk, IfErr};
-ghost use Rattle.nomos_due.specs.Outside.{SourceState, source_state};
-ghost use Rattle.nomos_due.specs.Replays.{no_journal};
+ghost use Rattle.nomos_answers.specs.Outside.{SourceState, source_state};
+ghost use Rattle.nomos_answers.specs.Replays.{no_journal};
 ghost use Rattle.nomos_words.specs.Options.{usual_limit};
 ghost use Rattle.nomos_report.specs.Block.{accepted_block};
 ghost use Rattle.nomos_top.specs.LeastBlock.{least_block};

@@ -1,8 +1,8 @@
 //! What is due where several workers run a script, each in a thread of its own.
 
 ghost use Rattle.std.specs.Prelude.{◌≡◌, ℕ, List, Option, Some, None, IfOk, IfErr};
-ghost use Rattle.nomos_due.specs.Outside.{SourceState, source_state};
-ghost use Rattle.nomos_due.specs.Sources.{IsRunDueFor, IsRunPartFor};
+ghost use Rattle.nomos_answers.specs.Outside.{SourceState, source_state};
+ghost use Rattle.nomos_answers.specs.Sources.{IsRunDueFor, IsRunPartFor};
 ghost use Rattle.nomos_legal.specs.Legal.{IsLimit};
 ghost use Rattle.nomos_top.specs.TaskRuns.{run_orders};
 ghost use Rattle.nomos_top.specs.mirror.Judging.{IsTaskDueOn, IsTaskPartOn, given_of, taken_of};
@@ -14,12 +14,12 @@ use crate::call_due::{CallDue, DoneSoFar, due_behind};
 use crate::judging::judge;
 use crate::stage::CallStage;
 use crate::unaccepted::unaccepted_due;
+use nomos_answers::due::Due;
+use nomos_answers::runs;
 use nomos_base::Source;
-use nomos_due::due::Due;
-use nomos_due::runs;
 use nomos_legal::journal::Journal;
-use nomos_named::indexed::IndexedState;
 use nomos_run::orders::{Orders, Runner};
+use nomos_state::indexed::IndexedState;
 use nomos_types::accepted::Accepted;
 use nomos_workers::gate::Gate;
 use std::alloc::Global;

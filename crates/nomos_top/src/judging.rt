@@ -1,8 +1,8 @@
 //! What is found of a contract.
 
 ghost use Rattle.std.specs.Prelude.{◌≡◌};
-ghost use Rattle.nomos_due.specs.Benches.{load_contract};
-ghost use Rattle.nomos_due.specs.Outside.{source_state};
+ghost use Rattle.nomos_answers.specs.Benches.{load_contract};
+ghost use Rattle.nomos_answers.specs.Outside.{source_state};
 ghost use Rattle.nomos_top.specs.mirror.Judging.{ReadsContract, unaccepted_of, JudgesText, Judges, JudgesLeast};
 
 use nomos_accept::accepting::accept;

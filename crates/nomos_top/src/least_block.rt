@@ -7,9 +7,9 @@ ghost use Rattle.nomos_top.specs.LeastBlock.{least_line, proof_lines, least_bloc
 use crate::refusal_lines::push_weights;
 use nomos_base::push_gas;
 use nomos_least::least::LeastBounds;
+use nomos_printing::number::push_number;
 use nomos_report::block::push_block;
 use nomos_simplex::solved::Proof;
-use nomos_texts::number::push_number;
 use nomos_types::accepted::Accepted;
 use std::alloc::{AllocError, Global};
 

@@ -1,17 +1,17 @@
 //! What is due where threads submit the single lines of a script.
 
 ghost use Rattle.std.specs.Prelude.{◌≡◌, ◌<◌, ℕ, List, Some, None, IfOk, IfErr};
-ghost use Rattle.nomos_due.specs.Outside.{SourceState, source_state};
+ghost use Rattle.nomos_answers.specs.Outside.{SourceState, source_state};
 ghost use Rattle.nomos_top.specs.mirror.Judging.{IsPooledBehind, IsPooledBehindPart, IsTaskDueOn, IsTaskPartOn, given_of};
 ghost use Rattle.nomos_words.specs.Words.{pool};
 
 use crate::call_due::{CallDue, DoneSoFar, pooled_behind};
 use crate::judging::judge;
 use crate::unaccepted::unaccepted_due;
+use nomos_answers::pools;
 use nomos_base::Source;
-use nomos_due::pools;
 use nomos_ir::limits::USUAL_LIMIT;
-use nomos_named::indexed::IndexedState;
+use nomos_state::indexed::IndexedState;
 use nomos_types::accepted::Accepted;
 use std::alloc::Global;
 use std::sync::Wait;

@@ -13,8 +13,8 @@ use nomos_forms::row::Row;
 use nomos_forms::verdict::{Of, Verdict, Weight};
 use nomos_grammar::offence::Which;
 use nomos_ir::code_form::CodeForm;
+use nomos_printing::number::push_number;
 use nomos_simplex::solved::Stop;
-use nomos_texts::number::push_number;
 use std::alloc::{AllocError, Global};
 
 /// The lines of a refusal: its cause, and the weights that show it where it has some.

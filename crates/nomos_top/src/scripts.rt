@@ -1,10 +1,10 @@
 //! What is due where one worker runs a script, or a journal is replayed. No thread is made.
 
 ghost use Rattle.std.specs.Prelude.{◌≡◌, ◌≤◌, ℕ, List, Option, Some, None, IfOk, IfErr, true};
-ghost use Rattle.nomos_due.specs.Benches.{IsBenchDue, IsBenchPart};
-ghost use Rattle.nomos_due.specs.Outside.{SourceState, source_state};
-ghost use Rattle.nomos_due.specs.Replays.{no_journal};
-ghost use Rattle.nomos_due.specs.Sources.{IsReplayDueFor, IsRunDueFor, IsRunPartFor, kept_text};
+ghost use Rattle.nomos_answers.specs.Benches.{IsBenchDue, IsBenchPart};
+ghost use Rattle.nomos_answers.specs.Outside.{SourceState, source_state};
+ghost use Rattle.nomos_answers.specs.Replays.{no_journal};
+ghost use Rattle.nomos_answers.specs.Sources.{IsReplayDueFor, IsRunDueFor, IsRunPartFor, kept_text};
 ghost use Rattle.nomos_legal.specs.Legal.{IsLimit};
 ghost use Rattle.nomos_machine.specs.declared.policy.Policy.{Policy};
 ghost use Rattle.nomos_script.specs.ScriptReading.{ReadsAs};
@@ -17,15 +17,15 @@ ghost use Rattle.nomos_words.specs.declared.workers.Workers.{Workers};
 use crate::call_due::{CallDue, DoneSoFar, due_behind};
 use crate::judging::{judge, judge_auction};
 use crate::unaccepted::unaccepted_due;
+use nomos_answers::benches::{self, Load};
+use nomos_answers::due::Due;
+use nomos_answers::{replays, runs};
 use nomos_base::Source;
-use nomos_due::benches::{self, Load};
-use nomos_due::due::Due;
-use nomos_due::{replays, runs};
 use nomos_ir::limits::USUAL_LIMIT;
 use nomos_legal::journal::Journal;
 use nomos_machine::policy::Policy;
-use nomos_named::indexed::IndexedState;
 use nomos_run::orders::Orders;
+use nomos_state::indexed::IndexedState;
 use nomos_types::accepted::Accepted;
 use nomos_workers::batch::Crew;
 use std::alloc::Global;

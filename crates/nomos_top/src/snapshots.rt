@@ -1,9 +1,9 @@
 //! What is due where a ledger is saved, or a script run from one that was. No thread is made.
 
 ghost use Rattle.std.specs.Prelude.{◌≡◌, ℕ, List, Ok, Some, None, IfOk, IfErr};
-ghost use Rattle.nomos_due.specs.Outside.{SourceState, source_state};
-ghost use Rattle.nomos_due.specs.RunsDue.{usual_orders};
-ghost use Rattle.nomos_due.specs.Sources.{IsResumeDueFor, IsResumePartFor, IsRunPartFor, IsSaveDueFor};
+ghost use Rattle.nomos_answers.specs.Outside.{SourceState, source_state};
+ghost use Rattle.nomos_answers.specs.RunsDue.{usual_orders};
+ghost use Rattle.nomos_answers.specs.Sources.{IsResumeDueFor, IsResumePartFor, IsRunPartFor, IsSaveDueFor};
 ghost use Rattle.nomos_legal.specs.Ledger.{LedgerState};
 ghost use Rattle.nomos_snapshot.specs.Loading.{Loads};
 ghost use Rattle.nomos_top.specs.mirror.Judging.{IsTaskDueOn, IsTaskPartOn, given_of, taken_of};
@@ -13,10 +13,10 @@ ghost use Rattle.nomos_words.specs.Words.{resume, save};
 use crate::call_due::{CallDue, DoneSoFar, due_behind};
 use crate::judging::judge;
 use crate::unaccepted::unaccepted_due;
+use nomos_answers::{resumes, saves};
 use nomos_base::Source;
-use nomos_due::{resumes, saves};
 use nomos_ir::limits::USUAL_LIMIT;
-use nomos_named::indexed::IndexedState;
+use nomos_state::indexed::IndexedState;
 use nomos_types::accepted::Accepted;
 use std::alloc::Global;
 

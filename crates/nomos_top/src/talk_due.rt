@@ -1,9 +1,9 @@
 //! What is due where a party from outside talks behind a script. No thread is made.
 
 ghost use Rattle.std.specs.Prelude.{◌≡◌, ℕ, List, Some, None, IfOk, IfErr};
-ghost use Rattle.nomos_due.specs.Outside.{source_state};
-ghost use Rattle.nomos_due.specs.RunsDue.{usual_orders};
-ghost use Rattle.nomos_due.specs.Sources.{IsRunPartFor, IsTalkDueFor};
+ghost use Rattle.nomos_answers.specs.Outside.{source_state};
+ghost use Rattle.nomos_answers.specs.RunsDue.{usual_orders};
+ghost use Rattle.nomos_answers.specs.Sources.{IsRunPartFor, IsTalkDueFor};
 ghost use Rattle.nomos_script.specs.ScriptReading.{ReadsAs};
 ghost use Rattle.nomos_script.specs.declared.item.ScriptItem.{ScriptItem};
 ghost use Rattle.nomos_top.specs.mirror.Judging.{IsTaskDueOn, IsTaskPartOn, given_of, taken_of};
@@ -12,10 +12,10 @@ ghost use Rattle.nomos_words.specs.Words.{talk};
 use crate::call_due::{CallDue, DoneSoFar, due_behind};
 use crate::judging::judge;
 use crate::unaccepted::unaccepted_due;
+use nomos_answers::talks;
 use nomos_base::Source;
-use nomos_due::talks;
 use nomos_ir::limits::USUAL_LIMIT;
-use nomos_named::indexed::IndexedState;
+use nomos_state::indexed::IndexedState;
 use nomos_types::accepted::Accepted;
 use nomos_visit::held::Party;
 use std::alloc::Global;

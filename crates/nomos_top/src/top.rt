@@ -3,9 +3,9 @@
 
 ghost use Rattle.std.specs.Prelude.{◌≡◌, ◌⊎◌, ◌↔◌, ℕ, List, Ok, Some, None, IfOk, IfErr, IsTrue, map, string_bytes};
 ghost use Rattle.std.specs.Option.{option_map};
-ghost use Rattle.nomos_due.specs.Outside.{SourceState, sink_state, source_state};
-ghost use Rattle.nomos_due.specs.Sources.{kept_text};
-ghost use Rattle.nomos_due.specs.Written.{HasWrittenOut};
+ghost use Rattle.nomos_answers.specs.Outside.{SourceState, sink_state, source_state};
+ghost use Rattle.nomos_answers.specs.Sources.{kept_text};
+ghost use Rattle.nomos_answers.specs.Written.{HasWrittenOut};
 ghost use Rattle.nomos_legal.specs.Ledger.{LedgerState};
 ghost use Rattle.nomos_script.specs.ScriptReading.{ReadsAs};
 ghost use Rattle.nomos_script.specs.declared.item.ScriptItem.{ScriptItem};
@@ -28,9 +28,9 @@ use crate::scripts::{bench_due, replay_due, run_due};
 use crate::snapshots::{resume_due, save_due};
 use crate::stage::CallStage;
 use crate::talk_due::talk_due;
+use nomos_answers::benches::Load;
+use nomos_answers::written::write_due;
 use nomos_base::{Sink, Source};
-use nomos_due::benches::Load;
-use nomos_due::written::write_due;
 use nomos_ir::limits::USUAL_LIMIT;
 use nomos_legal::journal::Journal;
 use nomos_run::orders::Orders;

@@ -61,21 +61,6 @@ set-stays (x ∷ xs) zero (suc at) v here = here
 set-stays (x ∷ xs) (suc i) zero v here = here
 set-stays (x ∷ xs) (suc i) (suc at) v here = set-stays xs i at v here
 
--- a number is marked, or was none of the table's
-pub set-marks : (at : ℕ) (old new : List Bool) → at < length old → new ≡ slice_set old at true → IsMarkedAt at old new
-set-marks at old new inside is = record {
-  width = ap length is ∙ length-set old at true;
-  marked = λ low. ap (λ (l : List Bool). slice_get l at) is ∙ set-there old at true inside;
-  kept = λ other here. ap (λ (l : List Bool). slice_get l other) is ∙ set-stays old at other true here;
-}
-
-pub none-marks : (at : ℕ) (old new : List Bool) → length old ≤ at → new ≡ old → IsMarkedAt at old new
-none-marks at old new outside is = record {
-  width = ap length is;
-  marked = λ low. absurd (omega arith);
-  kept = λ other here. subst (λ (l : List Bool). IsWanted l other) (sym is) here;
-}
-
 -- what was marked stays so
 pub marked-kept : (at : ℕ) (old new : List Bool) → IsMarkedAt at old new → (o : Object) → ObjectMarked old o
     → ObjectMarked new o
@@ -102,13 +87,6 @@ message-marks m old new is = record {
   marked = tt;
   kept = λ o marked. subst (λ (l : List Bool). ObjectMarked l o) (sym is) marked;
 }
-
--- where the instructions of all processes are marked, what stands there is known
-pub object-known : (a : Acceptance) (wanted : List Bool) (found : List Place) → ArePlacesAt a wanted found
-    → length wanted ≡ length a.program.code → (o : Object) → ObjectMarked wanted o → ObjectIsKnown a found o
-object-known a wanted found are all (object.Process p) marked =
-    record { wanted = wanted; are = are; marked = λ low. marked (omega (arith, low, all)) }
-object-known a wanted found are all (object.Message m) marked = tt
 
 -- ---- elements of lists
 

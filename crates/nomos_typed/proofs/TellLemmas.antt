@@ -69,14 +69,6 @@ equal-tells {lists} {x} {old} {new} a b finds =
           new.amounts (All-contains_itself new.amounts),
     )
 
--- from nothing on, the property holds where all amounts are worth the same
-pub tells-all : (x : Annotations) (new : List (Amount × Amount)) {P : Type 0} → Tells x [] new P true
-    → SameWorth x new ↔ P
-tells-all x new tells = (
-  λ same. (tells.0 same).1,
-  λ holds. tells.1 (All-nil (λ (q : Amount × Amount). dths x q.0 ≡ dths x q.1), holds),
-)
-
 -- what holds of one more element
 pub all-more : {X : Type 0} (P : X → Type 0) (xs : List X) (i : ℕ) (x : X) → i < length xs → x ≡ get_or xs i x
     → (All P (take i xs) × P x) ↔ All P (take (i + 1) xs)

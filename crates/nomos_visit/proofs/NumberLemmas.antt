@@ -55,26 +55,11 @@ unsaid-room count same room = record {
   names = omega (arith, ap (λ (u : State). u.next_name) same, room.names);
 }
 
--- an opening takes one of each
-pub opened-room : {a : Acceptance} {s t : State} {number account : ℕ} (count : ℕ) → OpensTalk a s number account t
-    → LeavesNumbers s (count + 1) → LeavesNumbers t count
-opened-room count opens room = record {
-  objects = omega (arith, ap (λ (u : State). u.next_object) opens.after, room.objects);
-  names = omega (arith, ap (λ (u : State). u.next_name) opens.after, room.names);
-}
-
 -- room for some is room for fewer
 pub fewer-room : {s : State} {count less : ℕ} → LeavesNumbers s count → less ≤ count → LeavesNumbers s less
 fewer-room room few = record {
   objects = omega (arith, room.objects, few);
   names = omega (arith, room.names, few);
-}
-
--- room is room for the next numbers too
-pub room-numbers : {s : State} {count : ℕ} → LeavesNumbers s count → HasNumbers s
-room-numbers room = record {
-  object = omega (arith, room.objects);
-  name = omega (arith, room.names);
 }
 
 -- ---- what holds of a talk that is held

@@ -18,8 +18,8 @@ use Rattle.nomos_monitor.specs.declared.talk_refusal.TalkRefusal.{TalkRefusal}
 use Rattle.nomos_monitor.specs.declared.talk_refusal.TalkRefusal.TheVariants as refusal
 use Rattle.nomos_script.specs.declared.talk_line.TalkLine.{TalkLine}
 use Rattle.nomos_script.specs.declared.talk_line.TalkLine.TheVariants as talk_line
-use Rattle.nomos_texts.specs.Cause.{fault_text}
-use Rattle.nomos_texts.specs.ValueTexts.{value_text}
+use Rattle.nomos_printing.specs.Cause.{fault_text}
+use Rattle.nomos_printing.specs.ValueTexts.{value_text}
 
 -- ---- what lines say
 

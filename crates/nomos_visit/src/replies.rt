@@ -11,9 +11,9 @@ use nomos_ir::program::Program;
 use nomos_machine::object::Heard;
 use nomos_machine::rest::Rest;
 use nomos_monitor::talk_refusal::{SayError, TalkRefusal};
-use nomos_texts::fault_texts::push_fault;
-use nomos_texts::number::push_number;
-use nomos_texts::value_texts::push_value;
+use nomos_printing::fault_texts::push_fault;
+use nomos_printing::number::push_number;
+use nomos_printing::value_texts::push_value;
 use nomos_types::accepted::Accepted;
 use std::alloc::AllocError;
 

@@ -9,7 +9,7 @@ use nomos_journal::firing_lines::push_firings;
 use nomos_journal::line::{JournalLine, Version, push_line};
 use nomos_ledger::world::World;
 use nomos_legal::journal::End;
-use nomos_texts::end::push_end;
+use nomos_printing::end::push_end;
 use nomos_types::accepted::Accepted;
 use std::alloc::AllocError;
 

@@ -4,7 +4,7 @@ use Rattle.std.specs.Prelude.{codes, decimal}
 use Rattle.std.proofs.lemmas.List.{append-nil}
 use Rattle.nomos_machine.specs.declared.policy.Policy.{Policy}
 use Rattle.nomos_machine.specs.declared.policy.Policy.TheVariants.{First, Round}
-use Rattle.nomos_texts.proofs.OneTextLaws.{decimal-only}
+use Rattle.nomos_printing.proofs.OneTextLaws.{decimal-only}
 use Rattle.nomos_words.specs.Options.{AreSteps, AreWorkers, IsCountOr, IsPolicy, policy_word, option_value, option_words}
 use Rattle.nomos_words.specs.Words.{AreOperands, Asks, AsksFile, AsksFiles, AsksLoad, AsksPool, AsksRun, AsksTalk, Task, check, command, run, replay, bench, least, pool, talk, save, resume}
 use Rattle.nomos_words.specs.declared.workers.Workers.{Workers}

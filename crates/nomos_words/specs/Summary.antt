@@ -2,7 +2,7 @@
 use Rattle.std.specs.Prelude.{ℕ, List, [], ◌++◌, Option, Some, None, codes, decimal}
 use Rattle.nomos_base.specs.Gas.{gas_text}
 use Rattle.nomos_ir.specs.Value.{Value}
-use Rattle.nomos_texts.specs.ValueTexts.{value_text}
+use Rattle.nomos_printing.specs.ValueTexts.{value_text}
 use Rattle.nomos_words.specs.declared.summary.Figures.{Figures}
 
 -- the best bid, if there is one

@@ -2,7 +2,7 @@
 
 ghost use Rattle.std.specs.Prelude.{◌≡◌, ◌++◌, decimal, OnOk};
 
-use nomos_texts::number::push_number;
+use nomos_printing::number::push_number;
 use std::alloc::AllocError;
 
 /// Appends a word and a number.

@@ -6,7 +6,7 @@ ghost use Rattle.nomos_words.specs.Options.{AreSteps, IsCount, IsCountOr};
 ghost use Rattle.nomos_words.specs.Words.{IsSeed};
 
 use nomos_ir::limits::{HIGHEST_LIMIT, USUAL_LIMIT};
-use nomos_texts::number::{read_number, read_u64};
+use nomos_printing::number::{read_number, read_u64};
 
 /// The number from 1 to the most that is allowed which a word writes.
 pub(crate) fn read_count(word: &str, most: u32) -> Option<u32>

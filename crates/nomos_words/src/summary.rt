@@ -8,7 +8,7 @@ ghost use Rattle.nomos_words.specs.Summary.{best_line, counted_line, summary_tex
 use crate::counted::push_counted;
 use nomos_base::push_gas;
 use nomos_ir::value::Value;
-use nomos_texts::value_texts::push_value;
+use nomos_printing::value_texts::push_value;
 use std::alloc::AllocError;
 
 /// What is told of a load: from which seed and for how many bidders it was made, how many entries the journal has, the

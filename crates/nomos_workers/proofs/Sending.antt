@@ -14,7 +14,7 @@ use Rattle.nomos_script.proofs.name.ScriptName.TheSendSync as names
 use Rattle.nomos_ledger.proofs.books.Books.TheSendSync as books
 use Rattle.nomos_ledger.proofs.fired.Fired.TheSendSync as fired
 use Rattle.nomos_ledger.specs.contracts.world.World as World
-use Rattle.nomos_wake.proofs.awake.Awake.TheSendSync as awake
+use Rattle.nomos_ready.proofs.awake.Awake.TheSendSync as awake
 use Rattle.nomos_ledger.specs.contracts.watched.Watched as Watched
 use Rattle.nomos_floor.proofs.crew.Station.TheSendSync as station
 use Rattle.nomos_floor.specs.contracts.crew.Station as Station

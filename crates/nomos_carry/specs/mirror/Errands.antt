@@ -2,10 +2,10 @@
 use Rattle.std.specs.Prelude.{◌≡◌, ◌⊎◌, ℕ, List, Option, None, IsSome}
 use Rattle.std.specs.Option.{option_map}
 use Rattle.nomos_accept.specs.AcceptedText.{IsAcceptedAs}
-use Rattle.nomos_due.specs.Outside.{FaultCounts, HasText, SinkState, SourceState, input_of}
-use Rattle.nomos_due.specs.Sources.{kept_text}
-use Rattle.nomos_due.specs.Written.{HasWrittenOut}
-use Rattle.nomos_due.specs.declared.due.Due.{Due}
+use Rattle.nomos_answers.specs.Outside.{FaultCounts, HasText, SinkState, SourceState, input_of}
+use Rattle.nomos_answers.specs.Sources.{kept_text}
+use Rattle.nomos_answers.specs.Written.{HasWrittenOut}
+use Rattle.nomos_answers.specs.declared.due.Due.{Due}
 use Rattle.nomos_top.specs.Outcome.{IsUnaccepted}
 use Rattle.nomos_top.specs.Seen.{IsDone}
 use Rattle.nomos_types.specs.Acceptance.{Acceptance, IsAccepted}

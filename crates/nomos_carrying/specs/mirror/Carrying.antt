@@ -1,9 +1,9 @@
 -- What is due of a run from a ledger, as the code finds it. Private clauses alone cite it.
 use Rattle.std.specs.Prelude.{ℕ, List}
-use Rattle.nomos_due.specs.Finding.{IsBareOf, SavesWhole}
-use Rattle.nomos_due.specs.Outside.{HasText, SourceState, input_of}
-use Rattle.nomos_due.specs.RunsDue.{HasRunFrom, usual_orders}
-use Rattle.nomos_due.specs.declared.due.Due.{Due}
+use Rattle.nomos_answers.specs.Finding.{IsBareOf, SavesWhole}
+use Rattle.nomos_answers.specs.Outside.{HasText, SourceState, input_of}
+use Rattle.nomos_answers.specs.RunsDue.{HasRunFrom, usual_orders}
+use Rattle.nomos_answers.specs.declared.due.Due.{Due}
 use Rattle.nomos_legal.specs.Ledger.{LedgerState}
 use Rattle.nomos_legal.specs.Passage.{Passage}
 use Rattle.nomos_legal.specs.StandsFor.{StandsFor}

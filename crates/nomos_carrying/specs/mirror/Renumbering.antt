@@ -1,12 +1,12 @@
 -- What the code finds where a ledger is renumbered, or its next numbers told. Private clauses alone cite it.
 use Rattle.std.specs.Prelude.{◌≡◌, ℕ, List, Option, Some, Result, Ok, Err, Vec}
 use Rattle.std.specs.Global.{Global}
-use Rattle.nomos_due.specs.Finding.{IsBare, IsNoLedgerOf}
-use Rattle.nomos_due.specs.Outside.{HasText, Input, SourceState, input_of}
-use Rattle.nomos_due.specs.SnapshotLines.{unsaved_line}
-use Rattle.nomos_due.specs.Sources.{kept_text}
-use Rattle.nomos_due.specs.declared.due.Due.{Due}
-use Rattle.nomos_due.specs.declared.resumes.NoLedger.{NoLedger}
+use Rattle.nomos_answers.specs.Finding.{IsBare, IsNoLedgerOf}
+use Rattle.nomos_answers.specs.Outside.{HasText, Input, SourceState, input_of}
+use Rattle.nomos_answers.specs.SnapshotLines.{unsaved_line}
+use Rattle.nomos_answers.specs.Sources.{kept_text}
+use Rattle.nomos_answers.specs.declared.due.Due.{Due}
+use Rattle.nomos_answers.specs.declared.resumes.NoLedger.{NoLedger}
 use Rattle.nomos_legal.specs.Ledger.{LedgerState}
 use Rattle.nomos_legal.specs.StandsFor.{StandsFor}
 use Rattle.nomos_snapshot.specs.Loading.{Admits, Loads, TellsLedger}

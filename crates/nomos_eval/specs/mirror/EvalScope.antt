@@ -12,6 +12,7 @@ use Rattle.nomos_eval.specs.mirror.EvalTable.{table}
 abbrev pub binding_list : List (List (VarId × Datum)) → Binding → List (VarId × Datum)
 binding_list scopes binding.Nothing = []
 binding_list scopes (binding.More v value others leap) = (v, value) ∷ slice_index_or scopes others []
+binding_list scopes (binding.Call frame) = frame
 
 -- the lists of bindings
 unfoldable pub scopes_of : List Binding → List (List (VarId × Datum))
@@ -21,6 +22,7 @@ scopes_of cells = table binding_list [] cells
 abbrev pub IsBehind : ℕ → Binding → Type 0
 IsBehind place binding.Nothing = Unit {0}
 IsBehind place (binding.More v value others leap) = others < place
+IsBehind place (binding.Call frame) = Unit {0}
 
 -- a variable has another number than all those that a leap passes
 abbrev pub IsOutside : Leap → ℕ → Type 0
@@ -37,6 +39,7 @@ pub record Leads (scopes : List (List (VarId × Datum))) (w : VarId) (others : �
 abbrev pub LeadsOn : List (List (VarId × Datum)) → Binding → Type 0
 LeadsOn scopes binding.Nothing = Unit {0}
 LeadsOn scopes (binding.More v value others leap) = Leads scopes v others leap
+LeadsOn scopes (binding.Call frame) = Unit {0}
 
 -- what holds of all bindings
 pub record AreScopes (cells : List Binding) : Type 0 where

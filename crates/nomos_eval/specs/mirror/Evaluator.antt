@@ -5,6 +5,7 @@ use Rattle.std.specs.declared.result.Result.TheVariants.{Ok, Err}
 use Rattle.std.specs.List.{AllByRecursion}
 use Rattle.nomos_ir.specs.Bindings.{bound_to}
 use Rattle.nomos_ir.specs.declared.ids.VarId.{VarId}
+use Rattle.nomos_ir.specs.declared.kind.Kind.{Kind}
 use Rattle.nomos_ir.specs.declared.lists.ProgramLists.{ProgramLists}
 use Rattle.nomos_ir.specs.declared.term_node.TermNode.{TermNode}
 use Rattle.nomos_ir.specs.Evaluation.{Environment, Counted, ends, faults, go_on, nought, on_numbers, node_evaluation}
@@ -24,7 +25,7 @@ use Rattle.nomos_ir.specs.declared.or_no_memory.OrNoMemory.TheVariants as stop
 use Rattle.nomos_eval.specs.mirror.Operation.{operation}
 use Rattle.nomos_eval.specs.mirror.Rest.{rest, Variables, variables_at, act_work, work, ScopeIn}
 use Rattle.nomos_eval.specs.declared.around.Around.{Around}
-use Rattle.nomos_eval.specs.mirror.Around.{Rises}
+use Rattle.nomos_eval.specs.mirror.Ascending.{Rises}
 use Rattle.nomos_eval.specs.mirror.EvalTable.{datum_value, reach}
 
 -- variables with their values
@@ -158,3 +159,9 @@ pub record IsBinding (names : List VarId) (count : ℕ) (first : List Datum) (be
   pub sound : (n : ℕ) → AllByRecursion (λ d. reach d ≤ n) first
       → AllByRecursion (AllByRecursion (λ b. reach b.1 ≤ n)) before
       → AllByRecursion (λ d. reach d ≤ n) ds × AllByRecursion (AllByRecursion (λ b. reach b.1 ≤ n)) scopes
+
+-- so many topmost values were bound to parameters, and nothing else has changed
+abbrev pub IsBound : List (VarId × Kind) → ℕ → Evaluator → Evaluator → ℕ → Type 0
+IsBound pars count old new place =
+    IsBinding (map (λ par. par.0) pars) count old.values old.scopes 0 new.values new.scopes place
+    × (new.todo ≡ old.todo) × (new.lists ≡ old.lists) × (new.around ≡ old.around)

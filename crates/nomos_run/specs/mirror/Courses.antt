@@ -61,7 +61,7 @@ pub record KeepsTrail (before after : Trail) : Type 0 where
   pub orders : after.orders ≡ before.orders
   pub items : after.items ≡ before.items
 
--- so many first items were carried out, with this ledger and this walk behind them
+-- so many first items have passed, with this ledger and this walk behind them
 abbrev pub HasComeTo : Trail → LedgerState → WalkState → Type 0
 HasComeTo t l w = HasGone t.accepted.now empty_ledger t.orders (take t.next t.items.now) t.way.entries.items l w
 
@@ -84,7 +84,7 @@ pub record IsUnder {M : Type 0} (t : Trail) (u : UnderWay M) : Type 0 where
   pub shop : IsShop (shop_of t.accepted.now u.watched.world u.limit)
   pub watched : IsWatched t.accepted.now u.watched.world.state u.watched.awake
 
--- what comes next fits what was carried out; where memory was wanting the entries are those of some first items
+-- what comes next fits what has passed; where memory was wanting the entries are those of some first items
 abbrev pub IsPhase : {M : Type 0} → Trail → Phase M → Type 0
 IsPhase t (phase.Between l) = HasComeTo t l t.way.walk
 IsPhase t (phase.Under u) = IsUnder t u

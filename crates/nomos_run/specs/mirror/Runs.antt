@@ -43,7 +43,7 @@ pub record FinishesAs {M : Type 0} (before : WalkState) (line : ℕ) (v : WorldS
   pub entry : passed.entry ≡ Some (batch_entry line v answer)
   pub walk : (batch : Batch) → batch.line ≡ line → after ≡ walk_with (passage_of before.accepted batch v answer) before
 
--- An item was carried out: this became of it, and its firings are those of the crew.
+-- An item has passed: this became of it, and its firings are those of the crew.
 pub record CarriesOut {M : Type 0} (crew : Crew) (before : WalkState) (l : LedgerState) (i : ScriptItem)
     (passed : PassedItem M) (after : WalkState) : Type 0 where
   pub passage : Passage

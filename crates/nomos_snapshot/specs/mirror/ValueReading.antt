@@ -1,7 +1,7 @@
 -- A mirror: how the code takes values from the front of a text.
 use Rattle.std.specs.Prelude.{◌≡◌, ◌≢◌, ◌≤◌, ℕ, List, [], ◌∷◌, ◌++◌, All}
 use Rattle.nomos_ir.specs.Value.{Value, ValueList, int, truth, list}
-use Rattle.nomos_texts.specs.ValueTexts.{value_text, row_text}
+use Rattle.nomos_printing.specs.ValueTexts.{value_text, row_text}
 use Rattle.nomos_snapshot.specs.LineValue.{IsLineNumber, HasSmallNumbers, nesting, HaveSmallNumbers, nestings}
 
 -- a number or a truth value

@@ -1,7 +1,7 @@
 -- A mirror: the words that the code writes.
 use Rattle.std.specs.Prelude.{ℕ, List, decimal}
 use Rattle.nomos_ir.specs.Value.{list, value_list}
-use Rattle.nomos_texts.specs.ValueTexts.{value_text}
+use Rattle.nomos_printing.specs.ValueTexts.{value_text}
 use Rattle.nomos_snapshot.specs.Line.{name_word}
 use Rattle.nomos_snapshot.specs.declared.line_writing.LineWord.{LineWord}
 use Rattle.nomos_snapshot.specs.declared.line_writing.LineWord.TheVariants as word

@@ -4,13 +4,13 @@ use Rattle.std.specs.Global.{Global}
 use Rattle.nomos_accept.specs.AcceptedText.{IsAcceptedAs, IsRefused}
 use Rattle.nomos_accept.specs.declared.why.AcceptError.{AcceptError}
 use Rattle.nomos_accept.specs.declared.why.AcceptError.TheVariants as error
-use Rattle.nomos_due.specs.DueLines.{no_entries, read_fault_line}
-use Rattle.nomos_due.specs.Outside.{HasText, HaveRisen, SourceState, input_of}
-use Rattle.nomos_due.specs.Sources.{IsPoolDueFor, IsPoolPartFor, kept_text}
-use Rattle.nomos_due.specs.Written.{HasWrittenOut}
-use Rattle.nomos_due.specs.declared.due.Due.{Due}
-use Rattle.nomos_due.specs.declared.pools.PoolDue.{PoolDue}
-use Rattle.nomos_due.specs.declared.pools.PoolPart.{PoolPart}
+use Rattle.nomos_answers.specs.DueLines.{no_entries, read_fault_line}
+use Rattle.nomos_answers.specs.Outside.{HasText, HaveRisen, SourceState, input_of}
+use Rattle.nomos_answers.specs.Sources.{IsPoolDueFor, IsPoolPartFor, kept_text}
+use Rattle.nomos_answers.specs.Written.{HasWrittenOut}
+use Rattle.nomos_answers.specs.declared.due.Due.{Due}
+use Rattle.nomos_answers.specs.declared.pools.PoolDue.{PoolDue}
+use Rattle.nomos_answers.specs.declared.pools.PoolPart.{PoolPart}
 use Rattle.nomos_least.specs.LeastBounds.{IsLeastAs}
 use Rattle.nomos_least.specs.declared.least.LeastBounds.{LeastBounds}
 use Rattle.nomos_legal.specs.declared.journal.Journal.{Journal}

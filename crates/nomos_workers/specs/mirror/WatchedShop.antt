@@ -1,6 +1,6 @@
 -- A mirror of the code: a shop beside which is known who may be ready. No promise stands on it.
 use Rattle.std.specs.Prelude.{Option}
-use Rattle.nomos_wake.specs.declared.awake.Awake.{Awake}
+use Rattle.nomos_ready.specs.declared.awake.Awake.{Awake}
 use Rattle.nomos_ledger.specs.Watching.{IsWatched}
 use Rattle.nomos_workers.specs.Shops.{IsShop, ShopState}
 

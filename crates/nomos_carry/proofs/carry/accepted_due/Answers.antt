@@ -1,6 +1,6 @@
 use Rattle.std.proofs.Common.{◌≡◌, ℕ, List, Option, None, Bor, ap}
 use Rattle.std.specs.Option.{option_map}
-use Rattle.nomos_due.specs.Outside.{SourceState, source_state}
+use Rattle.nomos_answers.specs.Outside.{SourceState, source_state}
 use Rattle.nomos_carrying.specs.CarrySources.{IsBeginDueFor, IsNumbersDueFor, IsRenumberDueFor}
 use Rattle.nomos_carry.specs.CarryWords.{CarryTask, carry, numbers, renumber}
 use Rattle.nomos_carry.specs.mirror.Errands.{IsDueBehind}

@@ -1,5 +1,5 @@
 use Rattle.std.proofs.Common.{◌∙◌, ℕ, List, Some, ap, sym, true≢false}
-use Rattle.nomos_due.specs.Outside.{source_state}
+use Rattle.nomos_answers.specs.Outside.{source_state}
 use Rattle.nomos_carry.proofs.CallLemmas.{check-alone, check-ends, check-keeps}
 use Rattle.nomos_carry.proofs.RefusalLaws.{error-none}
 use Rattle.nomos_carry.proofs.carry.end_as_check.Goals as goal

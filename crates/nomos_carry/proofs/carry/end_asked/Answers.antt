@@ -1,5 +1,5 @@
 use Rattle.std.proofs.Common.{None, arith, refl}
-use Rattle.nomos_due.proofs.SourceLemmas.{long_text, taken_text}
+use Rattle.nomos_answers.proofs.SourceLemmas.{long_text, taken_text}
 use Rattle.nomos_ir.specs.Limits.{text_limit}
 use Rattle.nomos_carry.specs.mirror.Errands as errands
 use Rattle.nomos_carry.proofs.CallLemmas.{alone-line, alone-wanting, fault-asked, judged-ends, long-asked}

@@ -1,4 +1,4 @@
-use Rattle.nomos_due.specs.Written.{out_fault, whole}
+use Rattle.nomos_answers.specs.Written.{out_fault, whole}
 use Rattle.nomos_carry.proofs.carry.write_line.Goals as goal
 
 pub returns-in-Ok-clause-written : goal.returns-in-Ok-clause-written

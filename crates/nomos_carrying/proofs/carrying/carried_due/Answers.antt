@@ -1,6 +1,6 @@
 -- The script reads or not.
-use Rattle.nomos_due.specs.Outside.{input_of, source_state}
-use Rattle.nomos_due.proofs.SourceLemmas.{if_ok-map}
+use Rattle.nomos_answers.specs.Outside.{input_of, source_state}
+use Rattle.nomos_answers.proofs.SourceLemmas.{if_ok-map}
 use Rattle.nomos_carrying.specs.mirror.Carrying.{not_read, ran_on}
 use Rattle.nomos_carrying.proofs.carrying.carried_due.Goals as goal
 

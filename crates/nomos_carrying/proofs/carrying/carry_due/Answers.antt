@@ -1,5 +1,5 @@
-use Rattle.nomos_due.specs.Outside.{source_state}
-use Rattle.nomos_due.proofs.SourceLemmas.{told-same}
+use Rattle.nomos_answers.specs.Outside.{source_state}
+use Rattle.nomos_answers.proofs.SourceLemmas.{told-same}
 use Rattle.nomos_carrying.proofs.CarryLemmas.{carries-on, stops-before}
 use Rattle.nomos_carrying.proofs.NoLedgerLemmas.{if_ok-some}
 use Rattle.nomos_carrying.proofs.carrying.carry_due.Goals as goal

@@ -1,5 +1,5 @@
 -- All items have passed, and the ledger is saved or not.
-use Rattle.nomos_due.proofs.SourceLemmas.{if_ok-map}
+use Rattle.nomos_answers.proofs.SourceLemmas.{if_ok-map}
 use Rattle.nomos_carrying.proofs.CarryLemmas.{runs-on}
 use Rattle.nomos_carrying.proofs.carrying.ran_due.Goals as goal
 

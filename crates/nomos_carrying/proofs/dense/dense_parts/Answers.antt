@@ -1,5 +1,5 @@
 -- What is made is renumbered, and stands as it stood.
-use Rattle.nomos_due.proofs.SourceLemmas.{if_ok-map}
+use Rattle.nomos_answers.proofs.SourceLemmas.{if_ok-map}
 use Rattle.nomos_carrying.proofs.DenseLemmas.{parts-named, parts-renumbered, parts-sorted}
 use Rattle.nomos_carrying.proofs.dense.dense_parts.Goals as goal
 

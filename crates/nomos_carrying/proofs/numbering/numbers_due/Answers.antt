@@ -1,4 +1,4 @@
-use Rattle.nomos_due.specs.Outside.{source_state}
+use Rattle.nomos_answers.specs.Outside.{source_state}
 use Rattle.nomos_carrying.proofs.NoLedgerLemmas.{if_ok-some, if_some-map, numbers-none, numbers-told}
 use Rattle.nomos_carrying.proofs.numbering.numbers_due.Goals as goal
 

@@ -1,7 +1,7 @@
 -- A renumbering is due or not.
 use Rattle.std.proofs.Common.{◌∙◌, subst, sym}
 use Rattle.std.proofs.lemmas.Bool.{false≢true}
-use Rattle.nomos_due.proofs.SourceLemmas.{if_ok-map}
+use Rattle.nomos_answers.proofs.SourceLemmas.{if_ok-map}
 use Rattle.nomos_carrying.specs.CarryDue.{TellsNumbers, numbers_low}
 use Rattle.nomos_carrying.proofs.NoLedgerLemmas.{tells-high}
 use Rattle.nomos_carrying.proofs.numbering.numbers_text.Goals as goal

@@ -1,6 +1,6 @@
 -- What was read of the source, or why nothing was.
 use Rattle.std.proofs.Common.{refl}
-use Rattle.nomos_due.proofs.SourceLemmas.{long_text, some_text, taken_text}
+use Rattle.nomos_answers.proofs.SourceLemmas.{long_text, some_text, taken_text}
 use Rattle.nomos_snapshot.specs.Loading as loading
 use Rattle.nomos_snapshot.specs.Loading.{longest_snapshot}
 use Rattle.nomos_carrying.proofs.renumbering.read_snapshot.Goals as goal

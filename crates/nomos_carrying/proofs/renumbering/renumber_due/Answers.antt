@@ -1,4 +1,4 @@
-use Rattle.nomos_due.specs.Outside.{FaultCounts, source_state}
+use Rattle.nomos_answers.specs.Outside.{FaultCounts, source_state}
 use Rattle.nomos_carrying.proofs.NoLedgerLemmas.{if_ok-some, if_some-map, renumber-none}
 use Rattle.nomos_carrying.proofs.renumbering.renumber_due.Goals as goal
 

@@ -1,5 +1,5 @@
 -- There is a renumbered ledger or none.
-use Rattle.nomos_due.specs.Outside.{Input}
+use Rattle.nomos_answers.specs.Outside.{Input}
 use Rattle.nomos_carrying.proofs.NoLedgerLemmas.{if_ok-some, if_some-map}
 use Rattle.nomos_carrying.proofs.RenumberLemmas.{not_renumbered-due, renumbered-due}
 use Rattle.nomos_carrying.proofs.renumbering.text_due.Goals as goal

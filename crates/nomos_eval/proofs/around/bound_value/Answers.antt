@@ -1,6 +1,6 @@
 -- What stands at the first place of the variable is what it is bound to.
 use Rattle.std.proofs.Common.{sym}
-use Rattle.nomos_eval.proofs.AroundLemmas.{first-bound, none-bound}
+use Rattle.nomos_eval.proofs.AscendingLemmas.{first-bound, none-bound}
 use Rattle.nomos_eval.proofs.around.bound_value.Goals as goal
 
 pub returns-in-Some : goal.returns-in-Some

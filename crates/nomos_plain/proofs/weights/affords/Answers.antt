@@ -1,5 +1,5 @@
 use Rattle.std.proofs.Common.{◌∙◌, ap, arith}
-use Rattle.nomos_parts.specs.Gives.{potential_in}
+use Rattle.nomos_changes.specs.Gives.{potential_in}
 use Rattle.nomos_plain.proofs.PotentialLemmas.{both-told, potential-sum}
 use Rattle.nomos_plain.proofs.weights.affords.Goals as goal
 

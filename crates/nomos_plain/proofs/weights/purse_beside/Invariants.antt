@@ -1,6 +1,6 @@
 -- What is taken of the purse is the potential of the lists before.
 use Rattle.std.proofs.Common.{◌≡◌, ◌+◌, drop}
-use Rattle.nomos_parts.specs.Gives.{potential_in}
+use Rattle.nomos_changes.specs.Gives.{potential_in}
 use Rattle.nomos_plain.proofs.weights.purse_beside.Given as goal
 
 abbrev pub invariant-loop-pair : goal.invariant-loop-pair

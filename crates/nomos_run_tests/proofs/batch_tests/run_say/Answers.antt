@@ -1,6 +1,6 @@
 use denote.Exit.{yes}
 use denote.Param.Send.{arg_send, param_send}
-use Rattle.nomos_named.proofs.Sending.{state_sends}
+use Rattle.nomos_state.proofs.Sending.{state_sends}
 use Rattle.nomos_run_tests.proofs.batch_tests.run_say.Goals as goal
 
 pub run_batch-requires-send-M : goal.run_batch-requires-send-M

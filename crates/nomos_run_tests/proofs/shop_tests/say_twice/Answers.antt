@@ -2,7 +2,7 @@ use denote.Exit.{yes}
 use denote.Param.Send.{arg_send, param_send}
 use Rattle.std.proofs.Common.{◌∙◌, List, map, ap, arith}
 use Rattle.nomos_legal.specs.declared.journal.Firing.{Firing}
-use Rattle.nomos_named.proofs.Sending.{state_sends}
+use Rattle.nomos_state.proofs.Sending.{state_sends}
 use Rattle.nomos_workers.specs.Shops.{history_of}
 use Rattle.nomos_run_tests.proofs.shop_tests.say_twice.Goals as goal
 

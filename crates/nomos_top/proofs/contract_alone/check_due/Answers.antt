@@ -1,5 +1,5 @@
-use Rattle.nomos_due.proofs.SourceLemmas.{if_ok-map}
-use Rattle.nomos_due.specs.Outside.{HaveRisen, source_state}
+use Rattle.nomos_answers.proofs.SourceLemmas.{if_ok-map}
+use Rattle.nomos_answers.specs.Outside.{HaveRisen, source_state}
 use Rattle.nomos_top.proofs.DueLemmas.{due-checked, due-out}
 use Rattle.nomos_top.proofs.contract_alone.check_due.Goals as goal
 use Rattle.nomos_top.specs.mirror.Judging.{Sources}

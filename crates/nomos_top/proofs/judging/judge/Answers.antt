@@ -1,4 +1,4 @@
-use Rattle.nomos_due.specs.Outside.{source_state}
+use Rattle.nomos_answers.specs.Outside.{source_state}
 use Rattle.nomos_top.proofs.DueLemmas.{judged}
 use Rattle.nomos_top.proofs.judging.judge.Goals as goal
 

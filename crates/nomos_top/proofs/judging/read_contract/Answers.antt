@@ -1,4 +1,4 @@
-use Rattle.nomos_due.proofs.SourceLemmas.{taken_text, some_text, long_text}
+use Rattle.nomos_answers.proofs.SourceLemmas.{taken_text, some_text, long_text}
 use Rattle.nomos_ir.specs.Limits.{text_limit}
 use Rattle.nomos_top.proofs.DueLemmas.{too_long-refused}
 use Rattle.nomos_top.proofs.judging.read_contract.Goals as goal

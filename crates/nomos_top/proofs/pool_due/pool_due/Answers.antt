@@ -1,5 +1,5 @@
-use Rattle.nomos_due.proofs.SourceLemmas.{if_ok-map, if_err-map}
-use Rattle.nomos_due.specs.Outside.{HaveRisen, source_state}
+use Rattle.nomos_answers.proofs.SourceLemmas.{if_ok-map, if_err-map}
+use Rattle.nomos_answers.specs.Outside.{HaveRisen, source_state}
 use Rattle.nomos_top.proofs.DueLemmas.{ok-pooled, err-pooled, given-some, due-out, due-pool, part-nothing, part-pool}
 use Rattle.nomos_top.proofs.pool_due.pool_due.Goals as goal
 use Rattle.nomos_words.specs.Words.{pool}

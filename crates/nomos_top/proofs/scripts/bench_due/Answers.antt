@@ -1,4 +1,4 @@
-use Rattle.nomos_due.proofs.SourceLemmas.{some_text, if_ok-map, if_err-map}
+use Rattle.nomos_answers.proofs.SourceLemmas.{some_text, if_ok-map, if_err-map}
 use Rattle.nomos_top.proofs.DueLemmas.{if_ok-both, ok-given, err-given, due-bench, due-out, part-bench, part-nothing}
 use Rattle.nomos_top.proofs.scripts.bench_due.Goals as goal
 use Rattle.nomos_words.specs.Words.{bench}

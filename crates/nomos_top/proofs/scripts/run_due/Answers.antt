@@ -1,8 +1,8 @@
 use Rattle.std.proofs.Common.{ℕ, ap, subst}
-use Rattle.nomos_due.proofs.SourceLemmas.{if_ok-map, if_err-map}
+use Rattle.nomos_answers.proofs.SourceLemmas.{if_ok-map, if_err-map}
 use Rattle.nomos_run.specs.declared.orders.Orders.{Orders}
 use Rattle.nomos_top.specs.mirror.Judging.{IsDueOut, IsNothing}
-use Rattle.nomos_due.specs.Outside.{HaveRisen, source_state}
+use Rattle.nomos_answers.specs.Outside.{HaveRisen, source_state}
 use Rattle.nomos_top.proofs.DueLemmas.{ok-given, err-given, given-some, due-out, due-run, part-nothing, part-run}
 use Rattle.nomos_top.proofs.scripts.run_due.Goals as goal
 use Rattle.nomos_words.specs.Words.{run}

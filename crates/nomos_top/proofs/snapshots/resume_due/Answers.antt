@@ -1,7 +1,7 @@
 use Rattle.std.proofs.Common.{◌≡◌, List, ℕ, Option, Some, Ok, sym, ◌∙◌, subst}
 use Rattle.std.proofs.lemmas.Option.{same_Some}
-use Rattle.nomos_due.proofs.SourceLemmas.{if_ok-map, if_err-map}
-use Rattle.nomos_due.specs.Outside.{HaveRisen, source_state}
+use Rattle.nomos_answers.proofs.SourceLemmas.{if_ok-map, if_err-map}
+use Rattle.nomos_answers.specs.Outside.{HaveRisen, source_state}
 use Rattle.nomos_top.proofs.DueLemmas.{ok-given, err-given, given-some, due-out, due-resume, part-nothing, part-resume}
 use Rattle.nomos_top.proofs.snapshots.resume_due.Goals as goal
 use Rattle.nomos_legal.specs.Ledger.{LedgerState}

@@ -1,5 +1,5 @@
-use Rattle.nomos_due.proofs.SourceLemmas.{if_ok-map, if_err-map}
-use Rattle.nomos_due.specs.Outside.{HaveRisen, source_state}
+use Rattle.nomos_answers.proofs.SourceLemmas.{if_ok-map, if_err-map}
+use Rattle.nomos_answers.specs.Outside.{HaveRisen, source_state}
 use Rattle.nomos_top.proofs.DueLemmas.{ok-given, err-given, given-some, due-out, due-save, part-nothing, part-save}
 use Rattle.nomos_top.proofs.snapshots.save_due.Goals as goal
 use Rattle.nomos_words.specs.Words.{save}

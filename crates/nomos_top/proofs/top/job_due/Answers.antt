@@ -1,5 +1,5 @@
 use Rattle.std.proofs.Common.{◌≤◌, ℕ, List, [], ◌∷◌, subst}
-use Rattle.nomos_due.proofs.SourceLemmas.{if_err-map}
+use Rattle.nomos_answers.proofs.SourceLemmas.{if_err-map}
 use Rattle.nomos_top.proofs.DueLemmas.{part-nothing}
 use Rattle.nomos_top.proofs.top.job_due.Goals as goal
 use Rattle.nomos_words.specs.Jobs.{task}

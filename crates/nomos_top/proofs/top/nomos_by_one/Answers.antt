@@ -1,5 +1,5 @@
 use Rattle.std.proofs.Common.{None, map, refl, string_bytes}
-use Rattle.nomos_due.specs.Outside.{SourceState, source_state}
+use Rattle.nomos_answers.specs.Outside.{SourceState, source_state}
 use Rattle.nomos_top.proofs.ClaimLaws.{ended-claims}
 use Rattle.nomos_top.proofs.CallLemmas.{nothing-may_keep, seven-wanting}
 use Rattle.nomos_top.proofs.DueLemmas.{call-ends}

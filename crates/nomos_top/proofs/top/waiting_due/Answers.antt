@@ -1,6 +1,6 @@
 use Rattle.std.proofs.Common.{map, string_bytes}
 use Rattle.std.specs.Option.{option_map}
-use Rattle.nomos_due.proofs.SourceLemmas.{if_ok-map, if_err-map}
+use Rattle.nomos_answers.proofs.SourceLemmas.{if_ok-map, if_err-map}
 use Rattle.nomos_top.proofs.DueLemmas.{due-asked, part-asked}
 use Rattle.nomos_top.proofs.top.waiting_due.Goals as goal
 use Rattle.nomos_words.specs.Words.{pool, run}

@@ -1,5 +1,5 @@
 use Rattle.std.proofs.Common.{None, refl, map, string_bytes, subst}
-use Rattle.nomos_due.proofs.SourceLemmas.{if_ok-map, if_err-map}
+use Rattle.nomos_answers.proofs.SourceLemmas.{if_ok-map, if_err-map}
 use Rattle.nomos_top.proofs.CallLemmas.{unwanted}
 use Rattle.nomos_top.proofs.DueLemmas.{due-asked, due-usage, found-none, part-asked, part-usage}
 use Rattle.nomos_top.proofs.top.words_due.Goals as goal

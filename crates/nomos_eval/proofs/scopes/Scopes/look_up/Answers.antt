@@ -1,7 +1,7 @@
 -- The first variable with the number is found, going from one binding to the others.
 use Rattle.std.proofs.Common.{◌≡◌, ◌==◌, true, false, sym, ◌∙◌, arith, rules, tests}
 use Rattle.nomos_eval.specs.mirror.EvalScope.{IsOutside}
-use Rattle.nomos_eval.proofs.ScopeLemmas.{none_at, some_at, leads_at, found_here, missed_here, long}
+use Rattle.nomos_eval.proofs.ScopeLemmas.{call_at, none_at, some_at, leads_at, found_here, missed_here, long}
 use Rattle.nomos_eval.proofs.scopes.Scopes.look_up.Goals as goal
 
 pub index-requires : goal.index-requires
@@ -17,6 +17,12 @@ pub returns-in-Nothing : goal.returns-in-Nothing
 returns-in-Nothing c =
     sym (c.loop-w.invariant.1 ∙ none_at c.self.inside.cells.items c.args.self.now c.self.view_is c.self.invariant
     c.args.v.0 c.loop-w.at c.index.result.now c.loop-w.invariant.0 c.index.ensures c.in-Nothing.is)
+
+pub returns-in-Call : goal.returns-in-Call
+returns-in-Call c =
+    c.look_up.ensures
+    ∙ sym (c.loop-w.invariant.1 ∙ call_at c.self.inside.cells.items c.args.self.now c.self.view_is c.self.invariant
+    c.args.v.0 c.loop-w.at c.index.result.now c.in-Call.frame c.loop-w.invariant.0 c.index.ensures c.in-Call.is)
 
 pub returns-then-eq : goal.returns-then-eq
 returns-then-eq c =

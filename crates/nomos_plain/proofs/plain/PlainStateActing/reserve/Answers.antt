@@ -1,5 +1,5 @@
 use Rattle.std.proofs.Common.{arith}
-use Rattle.nomos_parts.proofs.BecomesLemmas.{on_ok}
+use Rattle.nomos_changes.proofs.BecomesLemmas.{on_ok}
 use Rattle.nomos_plain.proofs.SoundLemmas.{spare_at_least, spare_stays}
 use Rattle.nomos_plain.proofs.plain.PlainStateActing.reserve.Goals as goal
 

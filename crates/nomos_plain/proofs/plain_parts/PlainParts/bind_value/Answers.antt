@@ -2,7 +2,7 @@ use Rattle.std.proofs.Common.{◌∙◌, refl, ap}
 use Rattle.nomos_machine.specs.declared.object.Object.TheVariants as object
 use Rattle.nomos_machine.specs.Revised.{with_value}
 use Rattle.nomos_machine.specs.declared.object.Process.{Process}
-use Rattle.nomos_parts.proofs.BecomesLemmas.{on_ok}
+use Rattle.nomos_changes.proofs.BecomesLemmas.{on_ok}
 use Rattle.nomos_plain.specs.Parts.{process_in, state_of}
 use Rattle.nomos_plain.proofs.TakeLemmas.{becomes-taken, put-taken_back, on_err}
 use Rattle.nomos_plain.proofs.plain_parts.PlainParts.bind_value.Goals as goal

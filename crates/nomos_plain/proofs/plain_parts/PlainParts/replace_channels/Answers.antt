@@ -1,7 +1,7 @@
 use Rattle.std.proofs.Common.{ap, refl}
 use Rattle.nomos_machine.specs.declared.object.Object.TheVariants as object
 use Rattle.nomos_machine.specs.declared.object.Process.{Process}
-use Rattle.nomos_parts.specs.SmallChanges.{with_channels}
+use Rattle.nomos_changes.specs.SmallChanges.{with_channels}
 use Rattle.nomos_plain.specs.Parts.{process_in, state_of}
 use Rattle.nomos_plain.proofs.TakeLemmas.{becomes-taken}
 use Rattle.nomos_plain.proofs.plain_parts.PlainParts.replace_channels.Goals as goal

@@ -1,6 +1,6 @@
 use Rattle.std.proofs.Common.{◌∙◌, refl}
 use Rattle.nomos_machine.specs.declared.object.Object.TheVariants as object
-use Rattle.nomos_parts.specs.SmallChanges.{with_fields}
+use Rattle.nomos_changes.specs.SmallChanges.{with_fields}
 use Rattle.nomos_plain.specs.Parts.{process_in, state_of}
 use Rattle.nomos_plain.proofs.TakeLemmas.{becomes-taken}
 use Rattle.nomos_plain.proofs.plain_parts.PlainParts.set_fields.Goals as goal

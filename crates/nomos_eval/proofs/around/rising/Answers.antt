@@ -1,7 +1,0 @@
--- One more is higher than those before it.
-use Rattle.nomos_eval.proofs.AroundLemmas.{rises-more}
-use Rattle.nomos_eval.proofs.around.rising.Goals as goal
-
-pub loop-now-preserved : goal.loop-now-preserved
-loop-now-preserved c =
-    rises-more c.args.env.now c.loop-now.now c.loop-now.invariant (c.is_higher.ensures c.if-is_higher.true)

@@ -1,6 +1,0 @@
-use Rattle.std.proofs.Common.{◌∙◌, sym}
-use Rattle.nomos_index.proofs.LookLemmas.{types-found}
-use Rattle.nomos_index.proofs.readings.type_of.Goals as goal
-
-pub returns : goal.returns
-returns c = c.get.ensures ∙ sym (types-found c.args.contents.now.names.now c.args.name c.requires.names_ascending)

@@ -1,9 +1,0 @@
-use Rattle.std.proofs.Common.{◌∙◌, ap, sym}
-use Rattle.nomos_index.specs.Tallying.{counted_in}
-use Rattle.nomos_index.proofs.tallies.Tallies.is_idle.Goals as goal
-
-pub returns-in-Some : goal.returns-in-Some
-returns-in-Some c = (
-  λ idle d. sym (ap (counted_in d) c.in-Some.ensures) ∙ c.is_idle.ensures.0 idle d,
-  λ none. c.is_idle.ensures.1 (λ d. ap (counted_in d) c.in-Some.ensures ∙ none d),
-)

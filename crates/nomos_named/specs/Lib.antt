@@ -1,4 +1,0 @@
-pub mod Tallied
-pub mod NameFinding
-pub mod Counting
-pub mod State

@@ -1,7 +1,0 @@
--- What was added is the potential of the lists before.
-use Rattle.std.proofs.Common.{◌≡◌, ◌+◌, drop}
-use Rattle.nomos_parts.specs.Gives.{potential_in}
-use Rattle.nomos_parts.proofs.beginning.potential_of.Given as goal
-
-abbrev pub invariant-loop-pair : goal.invariant-loop-pair
-invariant-loop-pair l = l.sum + potential_in (drop l.pair-index l.lists) ≡ potential_in l.lists

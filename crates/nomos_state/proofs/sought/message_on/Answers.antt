@@ -1,0 +1,16 @@
+use Rattle.std.proofs.Common.{◌∙◌, Option, option_and_then, sym, ap}
+use Rattle.std.specs.Option.{option_map}
+use Rattle.nomos_machine.specs.declared.object.Object.{Object}
+use Rattle.nomos_state.specs.Indexed.{held_now}
+use Rattle.nomos_deeds.specs.SeenObjects.{seen_message}
+use Rattle.nomos_machine.specs.Objects.{message_of}
+use Rattle.nomos_machine.specs.Sight.{is_read_on}
+use Rattle.nomos_state.proofs.SeekLemmas.{first-found}
+use Rattle.nomos_state.proofs.sought.message_on.Goals as goal
+
+pub returns : goal.returns
+returns c =
+    c.message_in.ensures
+    ∙ ap (λ (o : Option Object). option_map seen_message (option_and_then message_of o))
+    (sym (first-found (is_read_on c.args.to_client c.args.name) (held_now c.args.contents.now) c.requires c.first.result
+    c.first.ensures))

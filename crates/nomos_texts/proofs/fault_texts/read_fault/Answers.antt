@@ -1,6 +1,0 @@
--- The table of faults has each of them.
-use Rattle.nomos_texts.proofs.NamingLemmas.{fault_named_reads}
-use Rattle.nomos_texts.proofs.fault_texts.read_fault.Goals as goal
-
-pub returns : goal.returns
-returns c = rw c.fault_named.ensures (fault_named_reads c.args.text.now)

@@ -1,6 +1,0 @@
-use Rattle.nomos_wake.proofs.SeekLemmas.{any-of_next}
-use Rattle.nomos_wake.proofs.seeking.any_ready.Goals as goal
-
-pub returns-in-None-clause-any : goal.returns-in-None-clause-any
-returns-in-None-clause-any g c =
-    any-of_next c.program-program.ensures.accepted c.requires.typed c.next_ready.result c.next_ready.ensures.next
