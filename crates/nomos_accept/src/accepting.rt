@@ -66,6 +66,11 @@ fn judge(alloc: Global, prepared: Prepared) -> Result<Accepted, AcceptError>
 /// Accepts a contract text where it reads as a program that is typed under the amounts that the pivot run finds, and
 /// says otherwise why not, by the first cause in the order of docs/LANGUAGE.md, "Acceptance". A text that is refused is
 /// typed under no amounts over any unit. Want of memory is the one answer for which no reason is given.
+///
+/// ```
+/// let accepted = accept(alloc, b"proc T twice(n : int;) = emit n + n; close;")?;
+/// assert_eq!(accepted.unit(), 1);
+/// ```
 pub fn accept(alloc: Global, text: &[u8]) -> Result<Accepted, AcceptError>
     ensures { Answers text.now result }
 {

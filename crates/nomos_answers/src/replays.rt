@@ -113,9 +113,8 @@ fn journal_due<M: Undo + Drop, S: Source>(
         → IfOk result (λ due. GivesJournal kept due.status due.journal) }
     ensures err { IfErr result (λ journal. journal ≡ no_journal) }
 {
-    // Where the program is read it is known to be accepted, and where the items are, how many they are and how they are
-    // written.
-    let _program = accepted.program();
+    // Where the items are read it is known how many they are and how they are written.
+    accepted.know();
     let _items = script.items();
     match read_all(alloc, journal, MAX_BYTES) {
         Ok(bytes) => text_due::<M>(alloc, accepted, script, &bytes),

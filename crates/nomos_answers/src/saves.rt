@@ -61,8 +61,7 @@ pub fn saved_due<M: Contents + Drop>(
     ensures ok { IfOk result (SavesWhole accepted.now journal whole.report.items whole.ledger) }
     ensures err { IfErr result (λ known. known ≡ journal) }
 {
-    // Where the program is read it is known to be accepted.
-    let _program = accepted.program();
+    accepted.know();
     let WholeRun { report, ledger, .. } = whole;
     match save(alloc, accepted, &ledger) {
         Ok(text) => Ok(Due {

@@ -151,8 +151,8 @@ fn ran_talk_due<M: Talking + Drop>(
         visit.entry.lines.now script.now) }
     ensures err { IfErr result (HasRunPart accepted.now script.now usual_orders) }
 {
-    // Where the program is read it is known to be accepted, and where the items are, how many they are.
-    let _program = accepted.program();
+    // Where the items are read it is known how many they are.
+    accepted.know();
     let _items = script.items();
     let ScriptRun { journal, finished } = run_script::<M>(usual_orders(), alloc, accepted, script);
     match finished {

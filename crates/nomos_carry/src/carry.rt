@@ -155,8 +155,7 @@ fn end_accepted<S: Source + Drop, K: Sink + Drop>(
         (K.faults edges.old.next) (K.faults edges.new.next)) result }
     ensures alone { AloneFor (carry_task errand.entry) result edges.old edges.new }
 {
-    // Where the program is read it is known to be accepted.
-    let _program = accepted.program();
+    accepted.know();
     match accepted_due(
         alloc,
         accepted,

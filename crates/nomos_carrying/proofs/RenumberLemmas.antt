@@ -1,9 +1,9 @@
 -- The ledger of a text, renumbered: that it is of that text's ledger, that it stands, and what is due of it.
-use Rattle.std.proofs.Common.{◌≡◌, ◌≢◌, ◌∙◌, ◌/◌, ◌<◌, ◌≤◌, ℕ, zero, suc, List, map, Option, Some, None, Result, Ok, Err, IfErr, IfOk, refl, ap, sym, subst, arith}
+use Rattle.std.proofs.Common.{◌≡◌, ◌≢◌, ◌∙◌, ◌/◌, ◌<◌, ◌≤◌, ℕ, List, map, Option, Some, None, Result, Ok, Err, IfErr, IfOk, refl, ap, sym, subst, arith}
 use Rattle.std.specs.Prelude.{IfSome}
 use Rattle.std.proofs.Math.Nat.{mul-div_cancel}
 use Rattle.std.proofs.lemmas.List.{length-map}
-use Rattle.std.proofs.lemmas.List.Elements.{All-contains, All-map}
+use Rattle.std.proofs.lemmas.List.Elements.{All-map}
 use Rattle.std.proofs.lemmas.Map.Views.{length-le_from_below}
 use Rattle.nomos_answers.specs.Finding.{HasNoLedger, IsBare}
 use Rattle.nomos_answers.specs.Outside.{Input}
@@ -15,13 +15,10 @@ use Rattle.nomos_ir.specs.declared.ids.TypeId.{TypeId}
 use Rattle.nomos_legal.specs.Ledger.{AreNamed, LedgerState}
 use Rattle.nomos_legal.specs.StandsFor.{StandsFor}
 use Rattle.nomos_machine.specs.Objects.{object_number}
-use Rattle.nomos_machine.specs.Run.{IsQuiet, NoneReady}
-use Rattle.nomos_machine.specs.State.{State, gas_of, process_at}
-use Rattle.nomos_machine.specs.TypedState.{IsTyped, Numbered}
-use Rattle.nomos_machine.specs.declared.object.Object.{Object}
-use Rattle.nomos_machine.specs.declared.object.Object.TheVariants as object
-use Rattle.nomos_machine.specs.declared.object.Process.{Process}
-use Rattle.nomos_machine.proofs.PreservationLaws.{process_at-there, ready-none}
+use Rattle.nomos_machine.specs.Run.{NoneReady}
+use Rattle.nomos_machine.specs.State.{State, gas_of}
+use Rattle.nomos_machine.specs.TypedState.{Numbered}
+use Rattle.nomos_ledger.proofs.ReadyLaws.{none_ready-quiet}
 use Rattle.nomos_types.specs.Acceptance.{Acceptance, IsAccepted}
 use Rattle.nomos_snapshot.specs.Loading.{Admits, IsSoundLedger, IsWorth, Loads, TellsLedger}
 use Rattle.nomos_snapshot.specs.Loading as loading
@@ -145,20 +142,6 @@ worth-one {a} {gas} {m} {n} some one two =
     let over : 0 < unit = omega arith in
     sym (mul-div_cancel m over) ∙ ap (λ (k : ℕ). k / unit) (sym one.is ∙ two.is) ∙ mul-div_cancel n over
 
--- no process has the number 0
-none-zero : {s : State} → Numbered s → (o : Option Process) → process_at s 0 ≡ o → process_at s 0 ≡ None
-none-zero {s} numbered None is = is
-none-zero {s} numbered (Some p) is =
-    let (there, number) = process_at-there s 0 p is in
-    let over : 0 < object_number (object.Process p) =
-    All-contains (λ (o : Object). 0 < object_number o) s.objects (object.Process p) numbered.over there in
-    absurd (omega (arith, number, over))
-
-none-quiet : {a : Acceptance} → IsAccepted a → {s : State} → IsTyped a s → NoneReady a s 0 → IsQuiet a s
-none-quiet accepted {s} typed none zero ready =
-    ready-none accepted typed 0 (none-zero typed.numbered (process_at s 0) refl) ready
-none-quiet accepted {s} typed none (suc q) ready = none (suc q) (omega arith) ready
-
 -- what is admitted of parts stands for the program
 admitted-stands : {a : Acceptance} {l : LedgerState} (parts : LedgerParts) → IsAccepted a
     → IsAdmittedAs a (parts_ledger parts) l → StandsFor a l
@@ -172,7 +155,7 @@ admitted-stands {a} {l} parts accepted entered =
         gas = entered.worth.is;
         contracts = entered.sound.contracts;
       };
-      quiet = none-quiet accepted entered.sound.typed entered.quiet;
+      quiet = none_ready-quiet accepted entered.sound.typed entered.quiet;
       no_transaction = entered.sound.no_transaction;
     })
 

@@ -69,8 +69,7 @@ fn renumbered<M: Contents + Drop>(
     ensures ok { IfOk result (HasRenumbered accepted.now text.now) }
     ensures err { IfErr result (λ why. why ≢ LoadError.NoMemory → NotRenumbered accepted.now text.now why) }
 {
-    // Where the program is read it is known to be accepted.
-    let _program = accepted.program();
+    accepted.know();
     let told = loaded_parts::<M>(alloc, accepted, text)?;
     let dense = dense_parts(alloc, told)?;
     admitted(alloc, accepted, dense)

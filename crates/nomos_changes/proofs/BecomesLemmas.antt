@@ -115,6 +115,18 @@ fields-become s t pid p q change seen x there looked changes same is becomes =
     ∙ ap (λ (x : SeenProcess). with_process pid (with_fields x p) s) fields
     ∙ ap (λ (q : Process). with_process pid q s) is
 
+-- a process becomes another one by plain fields that are those of the other one
+pub fields-end : (s t : State) (pid : ℕ) (r q : Process) (x : SeenProcess) → process_at s pid ≡ Some r
+    → x ≡ seen_process q → q.pid ≡ r.pid → with_fields (seen_process q) r ≡ q
+    → Becomes s x.pid (with_fields x) t → t ≡ with_process pid q s
+fields-end s t pid r q x there fields keeps is becomes =
+    let number : x.pid ≡ pid =
+    ap (λ (x : SeenProcess). x.pid) fields ∙ keeps ∙ (process_at-there s pid r there).1 in
+    becomes r (ap (process_at s) number ∙ there)
+    ∙ ap (λ (n : ℕ). with_process n (with_fields x r) s) number
+    ∙ ap (λ (x : SeenProcess). with_process pid (with_fields x r) s) fields
+    ∙ ap (λ (q : Process). with_process pid q s) is
+
 -- ---- what there is
 
 pub not-some : {X : Type 0} (o : Option X) → o ≡ None → IsSome o → ⊥

@@ -7,6 +7,8 @@ use Rattle.nomos_ir.specs.declared.ids.ProcId.{ProcId}
 use Rattle.nomos_changes.proofs.MadeLemmas.{one-some}
 use Rattle.nomos_types.specs.Acceptance.{Acceptance}
 use Rattle.nomos_deeds.specs.Acts.{args_of}
+use Rattle.nomos_deeds.specs.SeenObjects.{seen_process}
+use Rattle.nomos_deeds.specs.declared.sight.SeenProcess.{SeenProcess}
 use Rattle.nomos_machine.specs.Given.{Given, given}
 use Rattle.nomos_machine.specs.Optional.{◌>>=◌}
 use Rattle.nomos_machine.specs.State.{State, process_at}
@@ -22,16 +24,16 @@ pub match-told : {X : Type 0} (A : Type 0) (P : X → Type 0) (o : Option X) (x 
     → P x
 match-told A P o x is told = subst (λ o. MatchOption o A P) is told
 
-pub record SameBegun (d e : ProcDecl) (args others : Args) (g h : Given) (payer own : ℕ) : Type 0 where
+pub record SameBegun (d e : ProcDecl) (args others : Args) (g h : Given) (seen own : SeenProcess) : Type 0 where
   pub declaration : d ≡ e
   pub args_are : args ≡ others
   pub gives : g ≡ h
-  pub payer_is : payer ≡ own
+  pub seen_is : seen ≡ own
 
 pub begun-is : (a : Acceptance) (s : State) (pid : ℕ) (f : ProcId) (vs : List Value) (d e : ProcDecl)
-    (args others : Args) (g h : Given) (payer : ℕ) (p : Process) → HasBegun a s pid f vs d args g payer
-    → process_at s pid ≡ Some p → Begins a p f vs e others h → SameBegun d e args others g h payer p.payer
-begun-is a s pid f vs d e args others g h payer p has there begins =
+    (args others : Args) (g h : Given) (seen : SeenProcess) (p : Process) → HasBegun a s pid f vs d args g seen
+    → process_at s pid ≡ Some p → Begins a p f vs e others h → SameBegun d e args others g h seen (seen_process p)
+begun-is a s pid f vs d e args others g h seen p has there begins =
     let one : has.process ≡ p = one-some has.process p (sym has.there ∙ there) in
     let declaration : d ≡ e = one-some d e (sym has.begins.declared ∙ begins.declared) in
     let args_are : args ≡ others = one-some args others
@@ -44,5 +46,5 @@ begun-is a s pid f vs d e args others g h payer p has there begins =
           ∙ ap (λ (all : Args). given p vs all d) args_are
           ∙ ap (λ (d : ProcDecl). given p vs others d) declaration
           ∙ begins.gives);
-      payer_is = has.payer_is ∙ ap (λ (q : Process). q.payer) one;
+      seen_is = has.seen_is ∙ ap seen_process one;
     }

@@ -8,6 +8,7 @@ use Rattle.nomos_ir.specs.declared.ids.TypeId.{TypeId}
 use Rattle.nomos_ir.specs.declared.ids.VarId.{VarId}
 use Rattle.nomos_types.specs.Acceptance.{Acceptance}
 use Rattle.nomos_types.specs.Amount.{dths}
+use Rattle.nomos_deeds.specs.SeenObjects.{seen_process}
 use Rattle.nomos_machine.specs.Deeds.{hands_over_all, hands_over_lists}
 use Rattle.nomos_machine.specs.Given.{Given, begins}
 use Rattle.nomos_machine.specs.Revised.{poorer, standing_at, with_channel}
@@ -41,11 +42,11 @@ hands-no_list a s p [] q none = refl
 hands-no_list a s p (arg.Term e ∷ args) q none = hands-no_list a s p args q none
 hands-no_list a s p (arg.List w ∷ args) q none = absurd cc
 
--- a process with other lists has the same number
-pub lists-number : (lists : Option (List (VarId × PotentialList))) (p : Process)
-    → (with_lists_if_any lists p).pid ≡ p.pid
-lists-number (Some lists) p = refl
-lists-number None p = refl
+-- a process with other lists has the same plain fields
+pub lists-seen : (lists : Option (List (VarId × PotentialList))) (p : Process)
+    → seen_process (with_lists_if_any lists p) ≡ seen_process p
+lists-seen (Some lists) p = refl
+lists-seen None p = refl
 
 -- ---- a parent and its child
 

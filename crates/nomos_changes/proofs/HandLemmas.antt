@@ -4,6 +4,8 @@ use Rattle.std.specs.Option.{option_map}
 use Rattle.nomos_ir.specs.Bindings.{bound_to}
 use Rattle.nomos_ir.specs.declared.ids.VarId.{VarId}
 use Rattle.nomos_types.specs.Acceptance.{Acceptance}
+use Rattle.nomos_deeds.specs.SeenObjects.{seen_process}
+use Rattle.nomos_deeds.specs.declared.sight.SeenProcess.{SeenProcess}
 use Rattle.nomos_machine.specs.Deeds.{hands_over, hands_over_all, unless_shared}
 use Rattle.nomos_machine.specs.Sight.{is_shared_name}
 use Rattle.nomos_machine.specs.State.{State, process_at}
@@ -15,17 +17,18 @@ use Rattle.nomos_changes.proofs.GivenLemmas.{hands-channel, hands-no_channels}
 -- ---- channels that are handed over
 
 module _ (a : Acceptance) (s : State) (p : Process) where
-  hands-number : (v : VarId) (q : Process) → (hands_over a s p v q).pid ≡ q.pid
-  hands-number v q = at (option_map (is_shared_name a.program s.types) (bound_to v.0 q.channels))
+  -- plain fields stay
+  hands-seen : (v : VarId) (q : Process) → seen_process (hands_over a s p v q) ≡ seen_process q
+  hands-seen v q = at (option_map (is_shared_name a.program s.types) (bound_to v.0 q.channels))
     where
-      at : (o : Option Bool) → (unless_shared a s p v o q).pid ≡ q.pid
+      at : (o : Option Bool) → seen_process (unless_shared a s p v o q) ≡ seen_process q
       at (Some true) = refl
       at (Some false) = refl
       at None = refl
 
-  pub hands_all-number : (vs : List VarId) (q : Process) → (hands_over_all a s p vs q).pid ≡ q.pid
-  hands_all-number [] q = refl
-  hands_all-number (v ∷ vs) q = hands_all-number vs (hands_over a s p v q) ∙ hands-number v q
+  pub hands_all-seen : (vs : List VarId) (q : Process) → seen_process (hands_over_all a s p vs q) ≡ seen_process q
+  hands_all-seen [] q = refl
+  hands_all-seen (v ∷ vs) q = hands_all-seen vs (hands_over a s p v q) ∙ hands-seen v q
 
   -- a reference stays
   pub hands-shared : (v : VarId) (q : Process) (name : ℕ) → Some name ≡ bound_to v.0 q.channels
@@ -56,7 +59,7 @@ module _ (a : Acceptance) (s : State) (p : Process) where
         let v = get_or vs i d in
         record {
           becomes = hands_over a s p v r;
-          keeps = hands-number v r ∙ so_far.keeps;
+          keeps = ap (λ (x : SeenProcess). x.pid) (hands-seen v r) ∙ so_far.keeps;
           is = next r (ap (λ (t : State). process_at t pid) so_far.is ∙ process-put s pid q r there so_far.keeps)
               ∙ ap (λ (t : State). with_process pid (hands_over a t p v r) t) so_far.is
               ∙ process-twice s pid q r there so_far.keeps (hands_over a s p v r);

@@ -11,6 +11,8 @@ use Rattle.nomos_ir.specs.declared.ids.VarId.{VarId}
 use Rattle.nomos_types.specs.Acceptance.{Acceptance}
 use Rattle.nomos_types.specs.Amount.{dths}
 use Rattle.nomos_deeds.specs.Acts.{args_of}
+use Rattle.nomos_deeds.specs.SeenObjects.{seen_process}
+use Rattle.nomos_deeds.specs.declared.sight.SeenProcess.{SeenProcess}
 use Rattle.nomos_machine.specs.Deeds.{hands_over_all, hands_over_lists}
 use Rattle.nomos_machine.specs.Given.{Given, begins, given}
 use Rattle.nomos_machine.specs.Optional.{◌>>=◌}
@@ -29,13 +31,13 @@ pub record Begins (a : Acceptance) (p : Process) (f : ProcId) (vs : List Value) 
   pub stands : (slice_get a.program.code p.code.0 >>= args_of) ≡ Some args
   pub gives : given p vs args d ≡ Some g
 
--- The process of a number gives this, and has this payer.
+-- The process of a number gives this, and has these plain fields.
 pub record HasBegun (a : Acceptance) (s : State) (pid : ℕ) (f : ProcId) (vs : List Value) (d : ProcDecl) (args : Args)
-    (g : Given) (payer : ℕ) : Type 0 where
+    (g : Given) (seen : SeenProcess) : Type 0 where
   pub process : Process
   pub there : process_at s pid ≡ Some process
   pub begins : Begins a process f vs d args g
-  pub payer_is : payer ≡ process.payer
+  pub seen_is : seen ≡ seen_process process
 
 -- whether a list is among arguments
 abbrev pub has_list : List ValueArg → Bool

@@ -3,6 +3,7 @@ pub mod Gives
 pub mod Hearings
 pub mod Leavings
 pub mod Performing
+pub mod PlainFields
 pub mod Providers
 pub mod Revisions
 pub mod Sendings

@@ -34,6 +34,11 @@ after_sending (sending.Channel y name false) p = without_channel y p
 after_sending (sending.Potential gas) p = poorer gas p
 after_sending _ p = p
 
+-- a channel that is sent, and is no reference, is its no longer
+abbrev pub handing_over : Sending → Process → Process
+handing_over (sending.Channel y name false) p = without_channel y p
+handing_over _ p = p
+
 -- ---- a message that is sent
 
 abbrev pub message_sent : State → Bool → ℕ → Payload → ℕ → Message

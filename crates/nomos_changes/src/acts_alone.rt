@@ -125,8 +125,7 @@ pub(crate) fn act_work<P: Parts>(parts: &mut P, pid: u32, gas: u64, next: CodeId
     ensures marked { P.marked parts.new ≡ P.marked parts.old }
 {
     parts.burn(u128::from(gas));
-    spend(parts, pid, gas);
-    go_on(parts, pid, next);
+    spend(parts, pid, u128::from(gas), next);
 }
 
 /// The process emits the value of its instruction's term.

@@ -36,7 +36,7 @@ pub(crate) fn values_of(
 ) -> Result<Vec<(VarId, Value)>, AllocError>
     ensures { IfOk result (λ made. made.items ≡ bindings_of (me_value me payer ++ values.items)) }
 {
-    let mut made = bindings_of(alloc, values, 1)?;
+    let mut made = bindings_of(alloc, values, usize::from(me.is_some()))?;
     if let Some(v) = me {
         bind(&mut made, v, Value::int(i64::from(payer)));
     }

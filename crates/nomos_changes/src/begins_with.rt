@@ -11,7 +11,7 @@ ghost use Rattle.nomos_changes.specs.Gives.{given_in};
 
 use crate::given::{Given, given_by};
 use crate::parts::Parts;
-use nomos_deeds::sight::Sight;
+use nomos_deeds::sight::{SeenProcess, Sight};
 use nomos_ir::code_node::{Args, CodeNode};
 use nomos_ir::declaration::ProcDecl;
 use nomos_ir::find::find_code;
@@ -20,13 +20,13 @@ use nomos_ir::value::Values;
 use nomos_types::accepted::Accepted;
 use std::alloc::{AllocError, Global};
 
-/// What a process begins with at a declaration.
+/// What a process begins with at a declaration, and its plain fields.
 #[derive(Drop)]
 pub(crate) struct BeginsWith<'a> {
     pub(crate) declaration: &'a ProcDecl,
     pub(crate) args: &'a Args,
     pub(crate) given: Given,
-    pub(crate) payer: u32,
+    pub(crate) process: SeenProcess,
 }
 
 // The arguments of an instruction that has some.
@@ -65,7 +65,7 @@ pub(crate) fn begins_with<'a, P: Parts>(
 ) -> Result<Option<BeginsWith<'a>>, AllocError>
     ensures found { IfOk result (λ found. IfSome found (λ begun.
         HasBegun accepted.now (P.state parts.now) begins.0 begins.1 values begun.declaration.now begun.args.now
-        (given_in begun.given) begun.payer)) }
+        (given_in begun.given) begun.process)) }
     ensures some { (p : Process) (d : Declared) (args : Handed) (g : Gives)
         → process_at (P.state parts.now) begins.0 ≡ Some p → Begins accepted.now p begins.1 values d args g
         → IfOk result (λ found. IsSome found) }
@@ -84,7 +84,7 @@ pub(crate) fn begins_with<'a, P: Parts>(
             declaration,
             args,
             given,
-            payer: process.payer,
+            process,
         })),
         None => Ok(None),
     }

@@ -40,7 +40,7 @@ fn give_names<P: Parts>(
     if args.len() != pars.len() {
         return Ok(None);
     }
-    let mut names = Vec::new(alloc);
+    let mut names = Vec::with_capacity(alloc, args.len())?;
     for at in 0..args.len() {
         match parts.channel(pid, args[at]) {
             Some(name) => names.push((pars[at].0, name))?,
@@ -52,23 +52,24 @@ fn give_names<P: Parts>(
 
 // The values and the lists of parameters: for each whose argument is a term the next of the values, and for each of the
 // others a copy of a list of the process; none, where one is missing, or where a value is left.
-fn give_values(
+fn give_values<P: Parts>(
+    parts: &P,
     alloc: Global,
-    lists: &[(VarId, PotentialList)],
+    pid: u32,
     values: Values,
-    args: &[ValueArg],
-    pars: &[Par],
+    start: (&[ValueArg], &[Par]),
 ) -> Result<Option<Given>, AllocError>
-    ensures { (p : Process) → p.lists ≡ lists.now
+    ensures { (p : Process) → process_at (P.state parts.now) pid ≡ Some p
         → IfOk result (λ found. option_map (λ g. (g.values.items, g.lists.items)) found
-        ≡ give_values p values args.now pars.now) }
+        ≡ give_values p values start.entry.0.now start.entry.1.now) }
 {
+    let (args, pars) = start;
     if args.len() != pars.len() {
         return Ok(None);
     }
     let mut left = values;
     let mut given = Given {
-        values: Vec::new(alloc),
+        values: Vec::with_capacity(alloc, args.len())?,
         lists: Vec::new(alloc),
         channels: Vec::new(alloc),
     };
@@ -81,7 +82,7 @@ fn give_values(
                 }
                 None => return Ok(None),
             },
-            ValueArg::List(w) => match list_of(lists, w) {
+            ValueArg::List(w) => match list_of(parts.lists(pid), w) {
                 Some(list) => given.lists.push((pars[at].var, copy_list(list)?))?,
                 None => return Ok(None),
             },
@@ -106,15 +107,8 @@ pub(crate) fn given_by<P: Parts>(
         → IfOk result (λ found. option_map given_in found ≡ given p values start.entry.0.now start.entry.1.now) }
 {
     let (args, declaration) = start;
-    let pars = declaration.values.as_slice();
-    let Some(found) = give_values(
-        alloc,
-        parts.lists(pid),
-        values,
-        args.values.as_slice(),
-        pars,
-    )?
-    else {
+    let terms = (args.values.as_slice(), declaration.values.as_slice());
+    let Some(found) = give_values(parts, alloc, pid, values, terms)? else {
         return Ok(None);
     };
     let pars = declaration.channels.as_slice();

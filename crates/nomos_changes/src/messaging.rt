@@ -4,20 +4,21 @@ ghost use Rattle.std.specs.Option.{option_map};
 ghost use Rattle.nomos_ir.specs.Value.{Value as Meaning};
 ghost use Rattle.nomos_deeds.specs.Acting.{HasNumbers, IsFrugalInto};
 ghost use Rattle.nomos_deeds.specs.Acts.{message_at, taken};
-ghost use Rattle.nomos_deeds.specs.SeenObjects.{seen_channel, seen_message};
+ghost use Rattle.nomos_deeds.specs.SeenObjects.{seen_channel, seen_payload, seen_process};
 ghost use Rattle.nomos_machine.specs.Deeds.{value_in};
 ghost use Rattle.nomos_machine.specs.Revised.{richer, standing_at, under_name, with_channel, with_value, without_channel};
 ghost use Rattle.nomos_machine.specs.Sight.{is_own, present_name};
 ghost use Rattle.nomos_machine.specs.State.{process_at};
 ghost use Rattle.nomos_machine.specs.declared.object.Message.{Message as Sent};
 ghost use Rattle.nomos_machine.specs.declared.object.Process.{Process};
-ghost use Rattle.nomos_changes.specs.Sendings.{after_sending, gas_of_sending, with_sent};
+ghost use Rattle.nomos_changes.specs.PlainFields.{uses_under};
+ghost use Rattle.nomos_changes.specs.Sendings.{after_sending, gas_of_sending, handing_over, with_sent};
 ghost use Rattle.nomos_changes.specs.SmallChanges.{Becomes, with_process, without_object};
 
 use crate::parts::Parts;
-use crate::plain_fields::{earn, go_on, go_under, spend};
+use crate::plain_fields::{earning, going_on, going_under, spending};
 use nomos_deeds::act::{Into, Sending};
-use nomos_deeds::sight::{SeenMessage, SeenPayload, Sight};
+use nomos_deeds::sight::{SeenMessage, SeenPayload, SeenProcess, Sight};
 use nomos_ir::code_node::Chan;
 use nomos_ir::ids::{CodeId, TypeId, VarId};
 use nomos_machine::object::{Message, Payload};
@@ -59,23 +60,20 @@ fn gas_of(sending: Sending) -> u128
 }
 
 // The present name of a process's channel.
-fn name_on<P: Parts>(parts: &P, pid: u32, channel: Chan) -> Option<u32>
-    ensures { (p : Process) → process_at (P.state parts.now) pid ≡ Some p → result ≡ present_name p channel }
+fn name_on<P: Parts>(parts: &P, seen: SeenProcess, channel: Chan) -> Option<u32>
+    ensures { (p : Process) → process_at (P.state parts.now) seen.pid ≡ Some p → seen ≡ seen_process p
+        → result ≡ present_name p channel }
 {
     match channel {
-        Chan::Own => {
-            let seen = parts.process(pid)?;
-            Some(seen.offers)
-        }
-        Chan::Var(v) => parts.channel(pid, v),
+        Chan::Own => Some(seen.offers),
+        Chan::Var(v) => parts.channel(seen.pid, v),
     }
 }
 
-// What is sent goes out of the sender's hands.
+// A channel that is sent goes out of the sender's hands, unless it is a reference.
 fn hand_over<P: Parts>(parts: &mut P, pid: u32, sending: Sending)
-    requires room { 0 < P.room parts.old }
-    ensures state { Becomes (P.state parts.old) pid (after_sending sending) (P.state parts.new) }
-    ensures room { P.room parts.old ≤ P.room parts.new + 1 }
+    ensures state { Becomes (P.state parts.old) pid (handing_over sending) (P.state parts.new) }
+    ensures room { P.room parts.old ≤ P.room parts.new }
     ensures marked { P.marked parts.new ≡ P.marked parts.old }
 {
     match sending {
@@ -88,9 +86,22 @@ fn hand_over<P: Parts>(parts: &mut P, pid: u32, sending: Sending)
                 parts.unbind_channel(pid, variable);
             }
         }
-        Sending::Potential(gas) => spend(parts, pid, gas),
+        Sending::Potential(_) => {}
         Sending::Label(_) => {}
         Sending::Value => {}
+    }
+}
+
+// A channel that the process uses goes on under a name.
+fn go_under<P: Parts>(parts: &mut P, pid: u32, channel: Chan, name: u32)
+    requires room { 0 < P.room parts.old }
+    ensures state { Becomes (P.state parts.old) pid (uses_under channel name) (P.state parts.new) }
+    ensures room { P.room parts.old ≤ P.room parts.new + 1 }
+    ensures marked { P.marked parts.new ≡ P.marked parts.old }
+{
+    match channel {
+        Chan::Own => {}
+        Chan::Var(v) => parts.bind_channel(pid, v, name),
     }
 }
 
@@ -142,12 +153,16 @@ pub(crate) fn send_message<P: Parts>(
     ensures room { P.room parts.old ≤ P.room parts.new + 5 }
     ensures marked { P.marked parts.new ≡ P.marked parts.old }
 {
-    let from = name_on(parts, pid, send.channel).unwrap_or(0);
+    let Some(seen) = parts.process(pid) else {
+        return Ok(());
+    };
+    let from = name_on(parts, seen, send.channel).unwrap_or(0);
     let name = parts.fresh_name();
     come(parts, alloc, from, send, payload)?;
     hand_over(parts, pid, send.sending);
     go_under(parts, pid, send.channel, name);
-    go_on(parts, pid, send.next);
+    let spent = spending(seen, gas_of(send.sending));
+    parts.set_fields(going_on(going_under(spent, send.channel, name), send.next));
     Ok(())
 }
 
@@ -187,32 +202,31 @@ fn take_channel<P: Parts>(parts: &mut P, pid: u32, brings: SeenPayload, v: VarId
     }
 }
 
-// The channel goes on under the message's next name, and what the message brings is taken in.
+// A channel that the process uses goes on under a name, and what the message brings is taken in. Want of memory leaves
+// the state as it was.
 fn take_in<P: Parts>(
     parts: &mut P,
     alloc: Global,
     pid: u32,
     receive: Receive,
-    seen: SeenMessage,
+    seen: (u32, SeenPayload),
 ) -> Result<(), AllocError>
     requires room { 2 ≤ P.room parts.old }
-    ensures ok { (p q : Process) (m : Sent) (name : ℕ) → process_at (P.state parts.old) pid ≡ Some p
-        → message_at (P.state parts.old).objects receive.message ≡ Some m → seen ≡ seen_message m → m.next ≡ Some name
-        → taken receive.into m.payload (under_name receive.channel name p) ≡ Some q
+    ensures ok { (p q : Process) (m : Sent) → process_at (P.state parts.old) pid ≡ Some p
+        → message_at (P.state parts.old).objects receive.message ≡ Some m → seen.1 ≡ seen_payload m.payload
+        → taken receive.into m.payload (uses_under receive.channel seen.0 p) ≡ Some q
         → OnOk result (P.state parts.new ≡ with_process pid q (P.state parts.old)) }
     ensures err { OnErr result (P.state parts.new ≡ P.state parts.old) }
     ensures room { P.room parts.old ≤ P.room parts.new + 2 }
     ensures frugal { IsFrugalInto receive.into → IsOk result }
     ensures marked { P.marked parts.new ≡ P.marked parts.old }
 {
-    let Some(name) = seen.next else {
-        return Ok(());
-    };
+    let (name, brings) = seen;
     match receive.into {
         Into::Nothing => go_under(parts, pid, receive.channel, name),
         Into::Channel(v) => {
             go_under(parts, pid, receive.channel, name);
-            take_channel(parts, pid, seen.brings, v);
+            take_channel(parts, pid, brings, v);
         }
         Into::Value(v) => {
             take_value(parts, alloc, pid, receive.message, v)?;
@@ -243,9 +257,16 @@ pub(crate) fn receive_message<P: Parts>(
     let Some(seen) = parts.message(receive.message) else {
         return Ok(());
     };
+    let Some(name) = seen.next else {
+        return Ok(());
+    };
+    let Some(process) = parts.process(pid) else {
+        return Ok(());
+    };
     let purse = parts.message_purse(receive.message);
-    take_in(parts, alloc, pid, receive, seen)?;
-    earn(parts, pid, purse, receive.next);
+    take_in(parts, alloc, pid, receive, (name, seen.brings))?;
+    let earned = earning(process, purse);
+    parts.set_fields(going_on(going_under(earned, receive.channel, name), receive.next));
     parts.leave(receive.message);
     Ok(())
 }
@@ -260,8 +281,11 @@ pub(crate) fn hear_end<P: Parts>(parts: &mut P, pid: u32, v: VarId, message: u32
     ensures room { P.room parts.old ≤ P.room parts.new + 2 }
     ensures marked { P.marked parts.new ≡ P.marked parts.old }
 {
+    let Some(process) = parts.process(pid) else {
+        return;
+    };
     let purse = parts.message_purse(message);
     parts.unbind_channel(pid, v);
-    earn(parts, pid, purse, next);
+    parts.set_fields(going_on(earning(process, purse), next));
     parts.leave(message);
 }

@@ -96,7 +96,8 @@ pub fn is_map<X>(pairs: &[(VarId, X)]) -> bool
     true
 }
 
-/// Pairs as a map, with room for so many more; where a variable stands twice, the first pair counts.
+/// Pairs as a map, with room for so many more; where a variable stands twice, the first pair counts. Pairs that are a
+/// map as they stand stay where they are.
 pub fn bindings_of<X: Drop>(
     alloc: Global,
     mut pairs: Vec<(VarId, X)>,
@@ -105,12 +106,12 @@ pub fn bindings_of<X: Drop>(
     ensures items { IfOk result (λ made. made.items ≡ bindings_of pairs.items) }
     ensures room { IfOk result (λ made. vec_len made + more ≤ vec_capacity made) }
 {
+    if is_map(pairs.as_slice()) {
+        pairs.reserve_exact(more)?;
+        return Ok(pairs);
+    }
     let count = pairs.len().checked_add(more).ok_or(AllocError)?;
     let mut made = Vec::with_capacity(alloc, count)?;
-    if is_map(pairs.as_slice()) {
-        made.append(&mut pairs)?;
-        return Ok(made);
-    }
     while let Some(pair) = pairs.pop() {
         bind(&mut made, pair.0, pair.1);
     }

@@ -109,10 +109,7 @@ pub(crate) fn revise<P: Parts>(
 {
     match revision {
         Revision::Stands => go_on(parts, pid, next),
-        Revision::Spends(gas) => {
-            spend(parts, pid, gas);
-            go_on(parts, pid, next);
-        }
+        Revision::Spends(gas) => spend(parts, pid, u128::from(gas), next),
         Revision::Binds(v, x) => {
             parts.bind_value(alloc, pid, v, x)?;
             go_on(parts, pid, next);

@@ -1,5 +1,5 @@
 //! The act by which a process spawns another one.
-ghost use Rattle.std.specs.Prelude.{◌≡◌, ◌≤◌, ◌<◌, ◌+◌, ◌-◌, ◌^◌, Some, IfOk, OnOk, OnErr};
+ghost use Rattle.std.specs.Prelude.{◌≡◌, ◌≤◌, ◌<◌, ◌+◌, ◌-◌, ◌^◌, ℕ, Some, IfOk, OnOk, OnErr};
 ghost use Rattle.std.specs.Option.{option_map};
 ghost use Rattle.nomos_ir.specs.Bindings.{unbind};
 ghost use Rattle.nomos_ir.specs.declared.code_node.Args.{Args as Handed};
@@ -7,6 +7,7 @@ ghost use Rattle.nomos_ir.specs.declared.declaration.ProcDecl.{ProcDecl as Decla
 ghost use Rattle.nomos_types.specs.Acceptance.{Acceptance};
 ghost use Rattle.nomos_types.specs.Amount.{dths};
 ghost use Rattle.nomos_deeds.specs.Acting.{CanAct, HasNumbers};
+ghost use Rattle.nomos_deeds.specs.SeenObjects.{seen_process};
 ghost use Rattle.nomos_deeds.specs.declared.act.Act.TheVariants as act;
 ghost use Rattle.nomos_machine.specs.Deeds.{hands_over, hands_over_all, hands_over_lists};
 ghost use Rattle.nomos_machine.specs.Given.{Given as Gives, begins};
@@ -22,6 +23,7 @@ use crate::beginning::{Beginning, begin};
 use crate::begins_with::begins_with;
 use crate::pairs::unbind;
 use crate::parts::Parts;
+use crate::plain_fields::{going_on, spending};
 use crate::process_lists::copy_lists;
 use nomos_deeds::sight::{SeenProcess, Sight};
 use nomos_deeds::unfolded_types::shows_shared;
@@ -83,18 +85,19 @@ fn has_list(args: &[ValueArg]) -> bool
 }
 
 // The lists that a process has after it gave the arguments, where a list is among them; otherwise it has those that it
-// had, and nothing is copied.
-fn lists_left(
+// had, and nothing is looked up or copied.
+fn lists_left<P: Parts>(
+    parts: &P,
     alloc: Global,
-    lists: &[(VarId, PotentialList)],
+    pid: u32,
     args: &[ValueArg],
 ) -> Result<Option<Vec<(VarId, PotentialList)>>, AllocError>
-    ensures { (a : Acceptance) (s : State) (p : Process) → p.lists ≡ lists.now
+    ensures { (a : Acceptance) (s : State) (p : Process) → process_at (P.state parts.now) pid ≡ Some p
         → IfOk result (λ left. with_lists_if_any (option_map (λ lists. lists.items) left) p
         ≡ hands_over_lists a s p args.now p) }
 {
     if has_list(args) {
-        Ok(Some(without_lists(alloc, lists, args)?))
+        Ok(Some(without_lists(alloc, parts.lists(pid), args)?))
     } else {
         Ok(None)
     }
@@ -141,26 +144,12 @@ fn hand_over_channels<P: Parts>(parts: &mut P, program: &Program, pid: u32, chan
     }
 }
 
-// The process pays so many Dths to its child, and goes on.
-fn pay_child<P: Parts>(parts: &mut P, pid: u32, purse: u128, next: CodeId)
-    requires room { 0 < P.room parts.old }
-    ensures state { Becomes (P.state parts.old) pid (λ p. standing_at next (poorer purse p)) (P.state parts.new) }
-    ensures room { P.room parts.old ≤ P.room parts.new + 1 }
-    ensures marked { P.marked parts.new ≡ P.marked parts.old }
-{
-    if let Some(seen) = parts.process(pid) {
-        parts.set_fields(SeenProcess {
-            code: next,
-            purse: seen.purse.saturating_sub(purse),
-            ..seen
-        });
-    }
-}
-
-// The process has the channel of its child, under the next name, pays to it, and goes on.
-fn meet_child<P: Parts>(parts: &mut P, spawn: Spawn, purse: u128)
+// The process has the channel of its child, under the next name, and these plain fields: those of one that pays so much
+// to its child, and goes on.
+fn meet_child<P: Parts>(parts: &mut P, spawn: Spawn, fields: SeenProcess)
     requires room { 2 ≤ P.room parts.old }
-    ensures state { (p : Process) → process_at (P.state parts.old) spawn.pid ≡ Some p
+    ensures state { (p : Process) (purse : ℕ) → process_at (P.state parts.old) spawn.pid ≡ Some p
+        → fields ≡ seen_process (standing_at spawn.next (poorer purse p))
         → P.state parts.new ≡ with_process spawn.pid (standing_at spawn.next (with_channel spawn.variable
         (P.state parts.old).next_name (poorer purse p))) (P.state parts.old) }
     ensures room { P.room parts.old ≤ P.room parts.new + 2 }
@@ -168,7 +157,7 @@ fn meet_child<P: Parts>(parts: &mut P, spawn: Spawn, purse: u128)
 {
     let name = parts.fresh_name();
     parts.bind_channel(spawn.pid, spawn.variable, name);
-    pay_child(parts, spawn.pid, purse, spawn.next);
+    parts.set_fields(fields);
 }
 
 // The process has these lists, if there are some.
@@ -185,21 +174,22 @@ fn keep_lists<P: Parts>(parts: &mut P, pid: u32, lists: Option<Vec<(VarId, Poten
 }
 
 // What becomes of a parent whose child comes: the lists that it has left, if that are others, the channels that it
-// hands over, and what it pays, in Dths.
+// hands over, and its plain fields, as they are when it has paid and goes on.
 #[derive(Drop)]
 struct Birth<'a> {
     lists: Option<Vec<(VarId, PotentialList)>>,
     channels: &'a [VarId],
-    purse: u128,
+    fields: SeenProcess,
 }
 
 // What a child is given goes out of its parent's hands, which goes on.
 fn give_birth<P: Parts>(parts: &mut P, program: &Program, spawn: Spawn, birth: Birth)
     requires room { 3 ≤ P.room parts.old }
-    ensures state { (a : Acceptance) (p : Process) → a.program ≡ program.now
+    ensures state { (a : Acceptance) (p : Process) (purse : ℕ) → a.program ≡ program.now
         → process_at (P.state parts.old) spawn.pid ≡ Some p
+        → birth.entry.fields ≡ seen_process (standing_at spawn.next (poorer purse p))
         → P.state parts.new ≡ with_process spawn.pid (standing_at spawn.next (with_channel spawn.variable
-        (P.state parts.old).next_name (poorer birth.entry.purse (hands_over_all a (P.state parts.old) p
+        (P.state parts.old).next_name (poorer purse (hands_over_all a (P.state parts.old) p
         birth.entry.channels.now (with_lists_if_any (option_map (λ lists. lists.items) birth.entry.lists) p)))))
         (P.state parts.old) }
     ensures room { P.room parts.old ≤ P.room parts.new + 3 }
@@ -208,11 +198,11 @@ fn give_birth<P: Parts>(parts: &mut P, program: &Program, spawn: Spawn, birth: B
     let Birth {
         lists,
         channels,
-        purse,
+        fields,
     } = birth;
     keep_lists(parts, spawn.pid, lists);
     hand_over_channels(parts, program, spawn.pid, channels);
-    meet_child(parts, spawn, purse);
+    meet_child(parts, spawn, fields);
 }
 
 // The process spawns another one. Want of memory leaves the state as it was.
@@ -240,18 +230,19 @@ fn spawn_child<P: Parts>(
     let Some(begun) = begins_with(&*parts, alloc, accepted, begins, values)? else {
         return Ok(());
     };
+    let process = begun.process;
     let at = Beginning {
         pid: parts.next_number(),
         offers: parts.fresh_name(),
         potential: accepted.bound(spawn.declaration),
-        payer: begun.payer,
+        payer: process.payer,
     };
-    let lists = lists_left(alloc, parts.lists(spawn.pid), begun.args.values.as_slice())?;
+    let lists = lists_left(&*parts, alloc, spawn.pid, begun.args.values.as_slice())?;
     let child = begin(alloc, begun.declaration, begun.given, at)?;
     let birth = Birth {
         lists,
         channels: begun.args.channels.as_slice(),
-        purse: child.fields.purse,
+        fields: going_on(spending(process, child.fields.purse), spawn.next),
     };
     parts.come_process(alloc, child)?;
     give_birth(parts, accepted.program(), spawn, birth);

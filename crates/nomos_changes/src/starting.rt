@@ -49,7 +49,7 @@ fn pair_values(
     ensures { IfOk result (λ made. made.items ≡ zip (map (λ par. par.var) pars.now) values.now) }
 {
     let mut left = values;
-    let mut made = Vec::new(alloc);
+    let mut made = Vec::with_capacity(alloc, pars.len())?;
     for par in pars {
         let Some((first, rest)) = left.parts() else {
             return Ok(made);
@@ -68,7 +68,7 @@ fn pair_names(
 ) -> Result<Vec<(VarId, u32)>, AllocError>
     ensures { IfOk result (λ made. made.items ≡ zip (map (λ par. par.0) pars.now) names.now) }
 {
-    let mut made = Vec::new(alloc);
+    let mut made = Vec::with_capacity(alloc, pars.len())?;
     for (at, par) in pars.iter().enumerate() {
         match names.get(at) {
             Some(name) => made.push((par.0, *name))?,
@@ -147,7 +147,7 @@ pub fn start<P: Parts>(
     ensures marked { P.marked parts.new ≡ P.marked parts.old }
 {
     // Where the program is read it is known to be accepted.
-    let _program = accepted.program();
+    accepted.know();
     let changes = keep.checked_add(ROOM_OF_AN_ACT).ok_or(AllocError)?;
     parts.make_room(changes)?;
     let chosen = declared(accepted, line.declaration);

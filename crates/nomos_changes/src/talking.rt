@@ -118,7 +118,7 @@ pub fn open_outside<P: Outside>(
     ensures marked { P.marked parts.new ≡ None }
 {
     // Where the program is read it is known to be accepted.
-    let _program = accepted.program();
+    accepted.know();
     let changes = keep.checked_add(ROOM_OF_AN_ACT).ok_or(AllocError)?;
     parts.make_room(changes)?;
     let chosen = declared(accepted, opening.declaration);
@@ -198,7 +198,7 @@ pub fn say<P: Outside>(
     ensures marked { P.marked parts.new ≡ None }
 {
     // Where the program is read it is known to be accepted.
-    let _program = accepted.program();
+    accepted.know();
     let Some(name) = parts.outside() else {
         unreachable!()
     };
@@ -293,7 +293,7 @@ pub fn hear<P: Outside>(
     ensures marked { P.marked parts.new ≡ None }
 {
     // Where the program is read it is known to be accepted.
-    let _program = accepted.program();
+    accepted.know();
     let Some(name) = parts.outside() else {
         return Ok(None);
     };

@@ -148,7 +148,7 @@ impl<'p> CodeWalk<'p> {
         ensures asked { self.new.asked ≡ self.old.asked }
         ensures notes { OnOk result (NotesForms program.now now.now self.old self.new) }
     {
-        let _lists = program.lists();
+        program.know();
         let alloc = self.asked.alloc;
         let form = now.potential.copy(alloc)?.into_form();
         self.forms.push(form)?;

@@ -80,7 +80,7 @@ pub(crate) fn at_add(
         (CodeNode.Add at adding.longer adding.element adding.list adding.next) }
     ensures { IfOk result (StepTells program.now now.old now.new) }
 {
-    let _lists = program.lists();
+    program.know();
     match list_grows(program, alloc, now, adding)? {
         Some(carried) => {
             now.lists.unbind(adding.list);

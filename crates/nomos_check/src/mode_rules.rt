@@ -35,7 +35,7 @@ pub(crate) fn mode_of(program: &Program, modes: &[Mode], t: TypeId) -> Mode
     requires in_range { t.0 < length program.now.types }
     ensures { HasMode program.now t result }
 {
-    let _lists = program.lists();
+    program.know();
     modes[t.0 as usize]
 }
 
@@ -45,6 +45,6 @@ pub(crate) fn has_mode(program: &Program, modes: &[Mode], t: TypeId, mode: Mode)
     requires in_range { t.0 < length program.now.types }
     ensures { IsTrue result ↔ HasMode program.now t mode }
 {
-    let _lists = program.lists();
+    program.know();
     is_mode(mode_of(program, modes, t), mode)
 }

@@ -21,7 +21,7 @@ pub(crate) fn at_work(program: &Program, now: &mut Standing, amount: Amount, nex
     requires stands { (at : ℕ) × StandsAtCode program.now (shape_of now.old) (CodeNode.Work at amount next) }
     ensures { StepTells program.now now.old now.new result }
 {
-    let _lists = program.lists();
+    program.know();
     now.potential.spend(amount);
     now.code = next;
     Step::Next

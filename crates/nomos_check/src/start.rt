@@ -91,7 +91,7 @@ fn is_reference(program: &Program, checker: &Checker, t: TypeId) -> bool
     requires has { HasMode program.now t (parameter_mode program.now t) }
     ensures { result ≡ is_shared_mode (parameter_mode program.now t) }
 {
-    let _lists = program.lists();
+    program.know();
     has_mode(program, checker.modes.as_slice(), t, Mode::S)
 }
 

@@ -112,7 +112,7 @@ pub(crate) fn at_let(
         (CodeNode.Let at letting.var letting.term letting.next) }
     ensures { IfOk result (StepTells program.now now.old now.new) }
 {
-    let _lists = program.lists();
+    program.know();
     if !is_free(now, letting.var) {
         return Ok(Step::Stuck);
     }
@@ -138,7 +138,7 @@ pub(crate) fn at_emit(
     requires stands { (at : ℕ) × StandsAtCode program.now (shape_of now.old) (CodeNode.Emit at e next) }
     ensures { IfOk result (StepTells program.now now.old now.new) }
 {
-    let _lists = program.lists();
+    program.know();
     match kind_of(program, alloc, now, e)? {
         Some(_) => {
             go_to(now, next);
@@ -160,7 +160,7 @@ pub(crate) fn at_if(
         (CodeNode.If at choosing.test choosing.then_next choosing.else_next) }
     ensures { IfOk result (StepTells program.now now.now now.now) }
 {
-    let _lists = program.lists();
+    program.know();
     let truth = Kind {
         lists: 0,
         base: Base::Bool,

@@ -76,7 +76,7 @@ fn processes(alloc: Global, program: &Program) -> Result<String, AllocError>
 
 // The same of a program that is well formed.
 fn asked(alloc: Global, program: &Program) -> Result<String, AllocError> {
-    let _lists = program.lists();
+    program.know();
     match well_formed(alloc, program) {
         Ok(()) => processes(alloc, program),
         Err(_) => Ok(String::new(alloc)),

@@ -38,7 +38,7 @@ pub(crate) fn act_on<M: Acting>(
     ensures marked { M.marked machine.new ≡ M.marked machine.old }
 {
     // Where the program is read it is known to be accepted.
-    let _program = accepted.program();
+    accepted.know();
     let Decision { doing, values } = decision;
     let Some(doing) = doing else { unreachable!() };
     match doing {

@@ -53,7 +53,7 @@ pub trait Machine: Acting {
         ensures { IsTrue result ↔ IsReady accepted.now (Self.state self.now) pid }
     {
         // Where the program is read it is known to be accepted.
-        let _program = accepted.program();
+        accepted.know();
         looks_ready(self, accepted, pid)
     }
 
@@ -77,7 +77,7 @@ pub trait Machine: Acting {
         ensures marked { Self.marked self.new ≡ Self.marked self.old }
     {
         // Where the program is read it is known to be accepted.
-        let _program = accepted.program();
+        accepted.know();
         let decision = decide(&*self, alloc, accepted, pid)?;
         act_on(self, alloc, accepted, pid, decision)
     }
@@ -141,7 +141,7 @@ pub trait Machine: Acting {
         ensures marked { Self.marked self.new ≡ Self.marked self.old }
     {
         // Where the program is read it is known to be accepted.
-        let _program = accepted.program();
+        accepted.know();
         let decision = decide_with(&*self, alloc, accepted, pid, known)?;
         act_on(self, alloc, accepted, pid, decision)
     }

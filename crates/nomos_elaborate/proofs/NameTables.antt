@@ -1,5 +1,5 @@
 -- Names under their numbers, beside the texts that are kept.
-use Rattle.std.proofs.Common.{◌≡◌, ℕ, ◌+◌, ◌≤◌, Bool, true, false, not, ltb, List, [], ◌∷◌, ◌++◌, length, map, unwrap_or, refl, sym, ap, ◌∙◌, arith}
+use Rattle.std.proofs.Common.{◌≡◌, ℕ, ◌+◌, ◌<◌, ◌≤◌, Bool, true, false, not, ltb, List, [], ◌∷◌, ◌++◌, length, map, unwrap_or, refl, sym, ap, ◌∙◌, arith}
 use Rattle.std.specs.Prelude.{if◌then◌else◌}
 use Rattle.std.specs.List.{list_any, position, position_or_len}
 use Rattle.std.specs.Str.{bytes_eq}
@@ -45,6 +45,25 @@ number_of-seen names n = go (is_among names n) refl
     go : (b : Bool) → is_among names n ≡ b → number_of (seen names n) n ≡ number_of names n
     go true e = rw e refl
     go false e = rw e (at_end names e)
+
+-- a name whose place is below the number of names is among them
+among-below : (names : Names) (n : List ℕ) → number_of names n < length names → is_among names n ≡ true
+among-below [] n below = absurd (omega (arith, below))
+among-below (m ∷ names) n below = by (bytes_eq m n) refl (λ inside. among-below names n inside)
+  where
+    by : (b : Bool) → bytes_eq m n ≡ b → (number_of names n < length names → is_among names n ≡ true)
+        → is_among (m ∷ names) n ≡ true
+    by true e further = rw e refl
+    by false e further = let there = rw e at below in rw (e, further (omega (arith, there))) refl
+
+-- a name that is among the names is seen there, and nothing is put
+pub known-seen : (names : Names) (n : List ℕ) (place : ℕ) → place ≡ number_of names n → place < length names
+    → (names, place) ≡ name_seen names n
+known-seen names n place at below =
+    let among = among-below names n (rw (← at) below) in
+    let kept : names ≡ seen names n = rw among refl in
+    let second : place ≡ number_of (seen names n) n = at ∙ sym (number_of-seen names n) in
+    (λ i. (kept i, second i))
 
 module _ {X : Type 0} (text : X → List ℕ) (n : List ℕ) where
   -- a name is among the texts of items where the text of one is that name

@@ -51,8 +51,28 @@ impl NameTable {
         self.texts.get_index_of(text).unwrap_or(self.texts.len())
     }
 
-    /// Puts a name at the end, where it is not among the names yet, and gives its place.
+    /// Puts a name at the end, where it is not among the names yet, and gives its place. Only then it is copied.
     pub(crate) fn see(&mut self, text: &[u8]) -> Result<usize, ElabError>
+        ensures gives { Gives (λ place. (self.new, place)) result (found (name_seen self.old text.now)) }
+        ensures within { IfOk result (λ place. place ≤ length self.old) }
+        ensures grows { IfOk result (λ _. length self.new ≤ length self.old + 1) }
+    {
+        let place = self.number_of(text);
+        if place < self.len() {
+            return Ok(place);
+        }
+        self.put(text)
+    }
+
+    /// How many names there are.
+    fn len(&self) -> usize
+        ensures { result ≡ length self.now }
+    {
+        self.texts.len()
+    }
+
+    /// Puts a copy of a name at the end, where it is not among the names yet, and gives its place.
+    fn put(&mut self, text: &[u8]) -> Result<usize, ElabError>
         ensures gives { Gives (λ place. (self.new, place)) result (found (name_seen self.old text.now)) }
         ensures within { IfOk result (λ place. place ≤ length self.old) }
         ensures grows { IfOk result (λ _. length self.new ≤ length self.old + 1) }

@@ -29,6 +29,16 @@ use Rattle.nomos_equality.proofs.HeadLaws.{form-head}
 use Rattle.nomos_equality.proofs.PathLaws.{agree-behind, node-behind, there-below}
 use Rattle.nomos_equality.proofs.VisitLemmas.{get-front, get-push, met-wider, follows-wider, follows-known, Reached, leads-push}
 
+-- ---- one type behind both names
+
+-- types that unfold to the same type have equal shapes
+pub same-shapes : (lists : ProgramLists) (a b u v : TypeId) → IsFormed lists → IsUnfolding lists a.0 u.0
+    → IsUnfolding lists b.0 v.0 → u.0 ≡ v.0 → EqualShapes lists a b
+same-shapes lists a b u v formed left right one =
+    λ n. agree-behind lists no_amounts n a b u v left right
+    (subst (λ (k : ℕ). Agree lists no_amounts n u (record { 0 = k })) one
+    (agree-same lists no_amounts n u formed.program formed.contractive (there-below lists u.0 left.node left.there)))
+
 -- ---- classes grow
 
 classed-front : (s t : DifferenceSearch) → IsFront s.classes t.classes → (u v : TypeId) → Classed s u v → Classed t u v

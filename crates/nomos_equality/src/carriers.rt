@@ -51,7 +51,7 @@ pub fn carries(alloc: Global, program: &Program, start: TypeId) -> Result<bool, 
     requires start { start.0 < length program.now.types }
     ensures { IfOk result (λ found. IsTrue found ↔ CarriesChannel program.now start) }
 {
-    let _lists = program.lists();
+    program.know();
     let mut walk = ContinuationWalk::new(alloc);
     walk_carries(&mut walk, program, start)
 }

@@ -192,7 +192,8 @@ impl DifferenceSearch {
     }
 }
 
-/// Whether two types of a program have equal shapes, or where they differ.
+/// Whether two types of a program have equal shapes, or where they differ. Two that unfold to the same type need no
+/// search, which takes memory for each type of the program.
 pub(crate) fn find_difference(
     alloc: Global,
     program: &Program,
@@ -204,6 +205,11 @@ pub(crate) fn find_difference(
     requires right { right.0 < length program.now.types }
     ensures { IfOk result (DecidesShapes program.now left right) }
 {
+    let own = unfold(program, left);
+    let other = unfold(program, right);
+    if own.0 == other.0 {
+        return Ok(Comparison::Equal);
+    }
     let mut search = DifferenceSearch::new(alloc, program.lists().types.len())?;
     search.run(program, left, right)
 }

@@ -59,7 +59,7 @@ impl Equalities {
         ensures answers { IfOk result (AnswersComparison program.now left right self.old self.new) }
         ensures err { OnErr result (self.new ≡ self.old) }
     {
-        let _lists = program.lists();
+        program.know();
         if self.known.has(program, left, right) {
             return Ok(Comparison::Equal);
         }

@@ -104,7 +104,7 @@ pub fn leads_back_with(
     ensures kept { StaysCompared equalities.old equalities.new }
     ensures answers { IfOk result (AnswersBeside program.now from shared equalities.old equalities.new) }
 {
-    let _lists = program.lists();
+    program.know();
     let mut walk = ContinuationWalk::new(alloc);
     leads_back(&mut walk, equalities, program, from, shared)
 }
@@ -151,7 +151,7 @@ pub fn synchronizing_with(
     ensures kept { StaysCompared equalities.old equalities.new }
     ensures answers { IfOk result (LeadsBack program.now shared equalities.old equalities.new) }
 {
-    let _lists = program.lists();
+    program.know();
     match program.node(shared) {
         TypeNode::Up(body) => leads_back_with(alloc, equalities, program, *body, shared),
         _ => Ok(Comparison::Equal),
@@ -167,7 +167,7 @@ pub fn synchronizing(alloc: Global, program: &Program, shared: TypeId) -> Result
     ensures answers { IfOk result (AnswersShared program.now shared) }
     ensures exact { IfOk result (IsSharedExact program.now shared) }
 {
-    let _lists = program.lists();
+    program.know();
     match program.node(shared) {
         TypeNode::Up(body) => leads_back_to(alloc, program, *body, shared),
         _ => Ok(Synced::Yes(Items::of_vec(Vec::new(alloc)))),

@@ -47,6 +47,14 @@ impl Program {
         &self.lists
     }
 
+    /// What is known of each program. It does nothing: where it is called, a proof rests on that.
+    #[inline(always)]
+    pub fn know(&self)
+        ensures program { IsProgram self.now }
+    {
+        let _ = &self.lists;
+    }
+
     /// The type node with this number.
     pub fn node(&self, t: TypeId) -> &TypeNode
         requires { t.0 < length self.now.types }

@@ -111,6 +111,10 @@ fn judge(alloc: Global, prepared: Prepared) -> Result<LeastBounds, AcceptError>
 /// The amounts under which a contract text is typed and of which its transactions declare the least in all, with
 /// weights that show it. A text is refused exactly as `nomos_accept::accepting::accept` refuses it, and it is unsolved
 /// where the pivot run or the least run stops. Want of memory is the one answer for which no reason is given.
+///
+/// ```
+/// let bounds = least(alloc, b"proc T twice(n : int;) = emit n + n; close;")?;
+/// ```
 pub fn least(alloc: Global, text: &[u8]) -> Result<LeastBounds, AcceptError>
     ensures { AnswersLeast text.now result }
 {

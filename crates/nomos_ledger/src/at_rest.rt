@@ -13,8 +13,7 @@ pub(crate) fn is_quiet<M: Machine>(machine: &M, accepted: &Accepted) -> bool
     requires { IsTyped accepted.now (M.state machine.now) }
     ensures { IsTrue result ↔ IsQuiet accepted.now (M.state machine.now) }
 {
-    // Where the program is read it is known to be accepted.
-    let _program = accepted.program();
+    accepted.know();
     machine.next_ready(accepted, 0).is_none()
 }
 

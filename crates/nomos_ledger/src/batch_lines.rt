@@ -46,8 +46,7 @@ impl<M: Undo> Books<M> {
         ensures ok { OnOk result (self.new.now ≡ after_start accepted.now self.old.now resolved.now) }
         ensures extends { Extends self.old self.new }
     {
-        // Where the program is read it is known to be accepted.
-        let _program = accepted.program();
+        accepted.know();
         let shared = self.machine.next_name();
         let given = (&resolved.values, resolved.names.as_slice());
         self.machine
@@ -92,7 +91,7 @@ impl<M: Undo> Books<M> {
         ensures extends { Extends self.old self.new }
         ensures stays { arguments.new ≡ arguments.old }
     {
-        let _program = arguments.accepted().program();
+        arguments.accepted().know();
         let mut made = Vec::new(alloc);
         for start in starts {
             match self.start_line(alloc, arguments, start) {

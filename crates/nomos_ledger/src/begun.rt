@@ -36,8 +36,7 @@ impl<M: Undo> Ledger<M> {
         ensures stands { BegunStandsFor arguments.old result }
         ensures stays { arguments.new ≡ arguments.old }
     {
-        // Where the program is read it is known to be accepted.
-        let _program = arguments.accepted().program();
+        arguments.accepted().know();
         let Ledger { mut books } = self;
         let kept = books.contracts.len();
         match books.start_batch(alloc, arguments, batch.starts.as_slice()) {

@@ -77,8 +77,7 @@ impl<M: Undo> Ledger<M> {
         let Some(deposits) = self.books.deposits.checked_add(units) else {
             return Ok(End::Refused(line, Refusal::TooMuchGas));
         };
-        // Where the program is read it is known to be accepted.
-        let _program = accepted.program();
+        accepted.know();
         let dths = u128::from(units) * u128::from(accepted.unit());
         self.books.deposit(alloc, name, dths, deposits)?;
         Ok(End::Deposited)

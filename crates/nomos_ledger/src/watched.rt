@@ -40,8 +40,7 @@ fn first_name<M: Undo>(accepted: &Accepted, world: &World<M>) -> u32
     requires fresh { world.now.firings ≡ [] }
     ensures { world.now.origin.state.next_name ≤ result }
 {
-    // Where the program is read it is known to be accepted.
-    let _program = accepted.program();
+    accepted.know();
     match world.first_made() {
         Some(name) => name,
         None => world.state().next_name(),
@@ -54,8 +53,7 @@ fn awake_at_start<M: Undo>(alloc: Global, accepted: &Accepted, world: &World<M>)
     requires fresh { world.now.firings ≡ [] }
     ensures { Covers accepted.now world.now.state result }
 {
-    // Where the program is read it is known to be accepted.
-    let _program = accepted.program();
+    accepted.know();
     let first = world.first_number(accepted);
     let name = first_name(accepted, world);
     awake_from(alloc, world.state(), first, name)
@@ -66,8 +64,7 @@ fn ready_in<M: Undo>(accepted: &Accepted, world: &World<M>, after: u32) -> Optio
     requires { WorldStandsFor accepted.now world.now }
     ensures { MatchOption result (IsQuiet accepted.now world.now.state) (IsReady accepted.now world.now.state) }
 {
-    // Where the program is read it is known to be accepted.
-    let _program = accepted.program();
+    accepted.know();
     match world.next_ready(accepted, after) {
         Some(pid) => Some(pid),
         None => world.next_ready(accepted, 0),
@@ -107,8 +104,7 @@ impl<M: Undo> Watched<M> {
         ensures next { MatchOption result (NoneReady accepted.now self.old.world.state after)
             (IsNextReady accepted.now self.old.world.state after) }
     {
-        // Where the program is read it is known to be accepted.
-        let _program = accepted.program();
+        accepted.know();
         match &mut self.awake {
             Some(awake) => next_ready(awake, self.world.state(), accepted, after),
             None => self.world.next_ready(accepted, after),
@@ -126,8 +122,7 @@ impl<M: Undo> Watched<M> {
         ensures lowest { MatchOption result (IsQuiet accepted.now self.old.world.state)
             (IsNextReady accepted.now self.old.world.state 0) }
     {
-        // Where the program is read it is known to be accepted.
-        let _program = accepted.program();
+        accepted.know();
         self.next_ready(accepted, 0)
     }
 
@@ -141,8 +136,7 @@ impl<M: Undo> Watched<M> {
         ensures any { MatchOption result (IsQuiet accepted.now self.old.world.state)
             (IsReady accepted.now self.old.world.state) }
     {
-        // Where the program is read it is known to be accepted.
-        let _program = accepted.program();
+        accepted.know();
         match &mut self.awake {
             Some(awake) => any_ready(awake, self.world.state(), accepted, after),
             None => ready_in(accepted, &self.world, after),
@@ -208,8 +202,7 @@ impl<M: Undo> Watched<M> {
         ensures foreseen { MatchOption result (self.new.awake ≡ None)
             (IsForeseen accepted.now self.new.world.state pid) }
     {
-        // Where the program is read it is known to be accepted.
-        let _program = accepted.program();
+        accepted.know();
         match &mut self.awake {
             Some(awake) => Some(foresee(awake, self.world.state(), accepted, pid)),
             None => None,
@@ -227,8 +220,7 @@ impl<M: Undo> Watched<M> {
             → IsWatched accepted.now s self.old.awake
             → IsWatched accepted.now self.new.world.state self.new.awake }
     {
-        // Where the program is read it is known to be accepted.
-        let _program = accepted.program();
+        accepted.know();
         let Some(foreseen) = foreseen else { return };
         let Some(awake) = &mut self.awake else {
             return;
@@ -253,8 +245,7 @@ impl<M: Undo> Watched<M> {
         ensures stands { WorldStandsFor accepted.now self.new.world }
         ensures watched { IsWatched accepted.now self.new.world.state self.new.awake }
     {
-        // Where the program is read it is known to be accepted.
-        let _program = accepted.program();
+        accepted.know();
         let foreseen = self.foresee(accepted, firing.pid);
         let answer = self.world.fire(alloc, accepted, firing)?;
         if let Fire::Fired = answer {
@@ -282,8 +273,7 @@ impl<M: Undo> Watched<M> {
         ensures stands { WorldStandsFor accepted.now self.new.world }
         ensures watched { IsWatched accepted.now self.new.world.state self.new.awake }
     {
-        // Where the program is read it is known to be accepted.
-        let _program = accepted.program();
+        accepted.know();
         let foreseen = self.foresee(accepted, firing.pid);
         let answer = self.world.fire_with(alloc, accepted, firing, known)?;
         if let Fire::Fired = answer {

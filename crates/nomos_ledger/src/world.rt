@@ -69,8 +69,7 @@ impl<M: Undo> World<M> {
         ensures state { M.state result.now ≡ self.now.state }
         ensures typed { IsTyped accepted.now self.now.state }
     {
-        // Where the program is read it is known to be accepted.
-        let _program = accepted.program();
+        accepted.know();
         &self.books.machine
     }
 
@@ -106,8 +105,7 @@ impl<M: Undo> World<M> {
         ensures { IfOk result (λ found. MatchOption found (IsFaultless accepted.now self.now.state)
             (λ it. IsLowestFault accepted.now self.now.state it.0 it.1)) }
     {
-        // Where the program is read it is known to be accepted.
-        let _program = accepted.program();
+        accepted.know();
         let mut after = 0;
         'processes: while let Some(pid) = self.next_ready(accepted, after) {
             if let Some(fault) = self.fault(alloc, accepted, pid)? {
@@ -150,7 +148,7 @@ impl<M: Undo> World<M> {
         ensures pays { IsUnderCostAll accepted.now.program
             → PaysFor accepted.now (length self.new.firings) self.new.origin.state self.new.state }
     {
-        let _program = accepted.program();
+        accepted.know();
         let Some(place) = self.books.place(firing.pid) else {
             unreachable!()
         };
@@ -182,7 +180,7 @@ impl<M: Undo> World<M> {
         ensures pays { IsUnderCostAll accepted.now.program
             → PaysFor accepted.now (length self.new.firings) self.new.origin.state self.new.state }
     {
-        let _program = accepted.program();
+        accepted.know();
         let Some(place) = self.books.place(firing.pid) else {
             unreachable!()
         };
@@ -237,8 +235,7 @@ impl<M: Undo> World<M> {
         ensures number { result ≡ self.now.state.next_object - (length self.now.starts + length self.now.firings) }
         ensures low { result ≤ self.now.origin.state.next_object }
     {
-        // Where the program is read it is known to be accepted.
-        let _program = accepted.program();
+        accepted.know();
         let without_firings = lowered(self.state().next_object(), self.firings().len());
         lowered(without_firings, self.starts())
     }
@@ -248,8 +245,7 @@ impl<M: Undo> World<M> {
         requires { WorldStandsFor accepted.now self.now }
         ensures { (pid : ℕ) → IsTransaction self.now.state.objects pid → result < pid }
     {
-        // Where the program is read it is known to be accepted.
-        let _program = accepted.program();
+        accepted.know();
         self.first_number(accepted).saturating_sub(1)
     }
 
@@ -260,8 +256,7 @@ impl<M: Undo> World<M> {
         requires quiet { IsQuiet accepted.now self.now.state }
         ensures { (count limit : ℕ) → EndsAs accepted.now self.now.state count limit result }
     {
-        // Where the program is read it is known to be accepted.
-        let _program = accepted.program();
+        accepted.know();
         let before = self.before_transactions(accepted);
         if has_transaction(self.machine(accepted), before) {
             End::Blocked

@@ -86,8 +86,7 @@ pub fn open_talk<'a, M: Talking>(
     ensures opened { (t : State) → OpensNamed accepted.now (M.state machine) proc.now account t
         → IsOpenedSo t result }
 {
-    // Where the program is read it is known to be accepted.
-    let _program = accepted.program();
+    accepted.know();
     match chosen(alloc, accepted, &machine, proc, account) {
         Err(_) => TalkOpening::NoMemory(machine),
         Ok(Err(why)) => TalkOpening::Refused(machine, why),
@@ -109,8 +108,7 @@ fn opened<'a, M: Talking>(
     ensures { (name : List ℕ) → CanOpenBy accepted.now (M.state machine) name account declaration.0
         → OpensTo M.state M.marked accepted.now (M.state machine) name account result }
 {
-    // Where the program is read it is known to be accepted.
-    let _program = accepted.program();
+    accepted.know();
     let mut running = Running {
         machine,
         awake: None,
@@ -145,8 +143,7 @@ impl<'a, M: Talking> OutsideTalk<'a, M> {
         ensures answers { AnswersSaying self.old.a self.old.state self.old.account said.now result self.new.state }
         ensures same { (self.new.a ≡ self.old.a) × (self.new.account ≡ self.old.account) }
     {
-        // Where the program is read it is known to be accepted.
-        let _program = self.accepted.program();
+        self.accepted.know();
         let Some(gas) = self.running.machine.fits(self.accepted, said) else {
             return Err(SayError::Protocol);
         };
@@ -171,8 +168,7 @@ impl<'a, M: Talking> OutsideTalk<'a, M> {
         ensures ends { IfOk result (λ heard. EndsBy heard self.old.state self.new.state) }
         ensures same { (self.new.a ≡ self.old.a) × (self.new.account ≡ self.old.account) }
     {
-        // Where the program is read it is known to be accepted.
-        let _program = self.accepted.program();
+        self.accepted.know();
         self.running.hear(alloc, self.accepted, self.account)
     }
 
@@ -184,8 +180,7 @@ impl<'a, M: Talking> OutsideTalk<'a, M> {
         ensures same { (self.new.a ≡ self.old.a) × (self.new.account ≡ self.old.account) }
     {
         let accepted = self.accepted;
-        // Where the program is read it is known to be accepted.
-        let _program = accepted.program();
+        accepted.know();
         let Some(pid) = self.running.lowest(accepted) else {
             return Ok(Some(Rest::Quiet));
         };
@@ -226,8 +221,7 @@ impl<'a, M: Talking> OutsideTalk<'a, M> {
         ensures err { OnErr result (FiresSome self.old.a limit self.old.state self.new.state) }
         ensures same { (self.new.a ≡ self.old.a) × (self.new.account ≡ self.old.account) }
     {
-        // Where the program is read it is known to be accepted.
-        let _program = self.accepted.program();
+        self.accepted.know();
         for made in 0..limit {
             if let Some(how) = self.step(alloc)? {
                 return Ok(Rested { made, how });
@@ -247,8 +241,7 @@ impl<'a, M: Talking> OutsideTalk<'a, M> {
         ensures talk { IsTalk self.now.a self.now.state self.now.account }
         ensures goes_on { GoesWell self.now.a self.now.account self.now.state }
     {
-        // Where the program is read it is known to be accepted.
-        let _program = self.accepted.program();
+        self.accepted.know();
         &self.running.machine
     }
 
@@ -259,8 +252,7 @@ impl<'a, M: Talking> OutsideTalk<'a, M> {
         ensures goes_on { GoesWell self.entry.a self.entry.account self.entry.state }
         ensures unmarked { M.marked result ≡ None }
     {
-        // Where the program is read it is known to be accepted.
-        let _program = self.accepted.program();
+        self.accepted.know();
         self.running.machine
     }
 }

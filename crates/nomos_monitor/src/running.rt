@@ -38,8 +38,7 @@ impl<M: Talking> Running<M> {
         ensures lowest { MatchOption result (IsQuiet accepted.now (M.state self.old.machine))
             (IsNextReady accepted.now (M.state self.old.machine) 0) }
     {
-        // Where the program is read it is known to be accepted.
-        let _program = accepted.program();
+        accepted.know();
         match &mut self.awake {
             Some(awake) => next_ready(awake, &self.machine, accepted, 0),
             None => self.machine.next_ready(accepted, 0),
@@ -107,8 +106,7 @@ impl<M: Talking> Running<M> {
         ensures watched { IsWatched accepted.now (M.state self.new.machine) self.new.awake }
         ensures marked { M.marked self.new.machine ≡ None }
     {
-        // Where the program is read it is known to be accepted.
-        let _program = accepted.program();
+        accepted.know();
         let quiet = self.lowest(accepted).is_none();
         let first_name = self.machine.next_name();
         let pid = self
@@ -169,8 +167,7 @@ impl<M: Talking> Running<M> {
         ensures watched { IsWatched accepted.now (M.state self.new.machine) self.new.awake }
         ensures marked { M.marked self.new.machine ≡ None }
     {
-        // Where the program is read it is known to be accepted.
-        let _program = accepted.program();
+        accepted.know();
         self.machine.hear(alloc, accepted, account)
     }
 }

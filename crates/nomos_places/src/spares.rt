@@ -75,7 +75,7 @@ pub(crate) fn leasts_of(
     ensures { IfOk result (λ leasts. AreLeasts accepted.now leasts.items) }
 {
     let program = accepted.program();
-    let _lists = program.lists();
+    program.know();
     let mut spares = Vec::new(alloc);
     let mut leasts = Vec::new(alloc);
     for at in 0..potentials.len() {

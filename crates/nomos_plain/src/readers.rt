@@ -244,8 +244,7 @@ pub(crate) fn next_ready<S: Sight>(
     ensures { MatchOption result (NoneReady accepted.now (S.state sight.now) after)
         (IsNextReady accepted.now (S.state sight.now) after) }
 {
-    // Where the program is read it is known to be accepted.
-    let _program = accepted.program();
+    accepted.know();
     pid_of(first_ready(sight, accepted, objects, after))
 }
 
@@ -331,7 +330,6 @@ pub(crate) fn next_owned(accepted: &Accepted, types: &[(u32, TypeId)], after: u3
     requires { IsStrictlySortedBy nat_cmp (map (λ t. t.0) types.now) }
     ensures { FindsNext (IsLinearName accepted.now.program types.now) after result }
 {
-    // Where the program is read it is known to be accepted.
-    let _program = accepted.program();
+    accepted.know();
     name_of(first_linear(accepted, types, after))
 }

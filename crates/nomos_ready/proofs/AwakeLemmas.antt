@@ -1,8 +1,7 @@
 -- Sets of processes that may be ready, told one after another.
-use Rattle.std.proofs.Common.{◌≡◌, ◌∙◌, ◌<◌, ◌≤◌, ◌+◌, inl, inr, ℕ, Option, Some, None, refl, sym, subst, arith, IsTrue, ⊎_elim}
+use Rattle.std.proofs.Common.{◌∙◌, ◌<◌, ◌≤◌, ◌+◌, inl, inr, ℕ, refl, sym, subst, arith, IsTrue, ⊎_elim}
 use Rattle.std.proofs.lemmas.Bool.{cases_eq, cases_lt}
 use Rattle.std.specs.BTreeSet.{BTreeSet, contains}
-use Rattle.nomos_deeds.specs.Lowest.{FindsNext}
 use Rattle.nomos_ready.specs.Covering.{HasProxy, IsNoted, MayBeReady, by_both}
 use Rattle.nomos_ready.specs.declared.awake.Awake.{Awake}
 use Rattle.nomos_ready.specs.mirror.ToldSets.{IsToldOver, Tells}

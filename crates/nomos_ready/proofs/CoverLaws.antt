@@ -93,6 +93,31 @@ over-zero {a} {s} typed q p found =
     in
     omega (arith, over, number)
 
+-- who has a number has one below the next
+below-next : {a : Acceptance} {s : State} → IsTyped a s → (q : ℕ) (p : Process) → process_at s q ≡ Some p
+    → q < s.next_object
+below-next {a} {s} typed q p found =
+    let (there, number) = process_at-there s q p found in
+    let below =
+    All-contains (λ (o : Object). object_number o < s.next_object) s.objects (object.Process p) typed.numbered.below
+    there
+    in
+    omega (arith, below, number)
+
+-- so where no object came under a number nobody is to be woken
+pub nobody-born : {a : Acceptance} {s : State} → IsTyped a s → (number : ℕ) (w : Awake) → s.next_object ≤ number
+    → WakesBy a s number w w
+nobody-born {a} {s} typed number w le = record {
+  itself = λ r is. absurd (none r is);
+  tells = tells-same w;
+  releasing = λ r n q stands ready is. absurd (none r stands.there);
+  acquiring = λ r n q stands opens over noted. absurd (none r stands.there);
+  unknown = λ r n q stands opens follows. absurd (none r stands.there);
+}
+  where
+    none : (r : Process) → process_at s number ≡ Some r → ⊥
+    none r is = let less = below-next typed number r is in omega (arith, less, le)
+
 pub waiter-over : {a : Acceptance} {s : State} → IsTyped a s → (q name : ℕ) → waits a s.objects q ≡ Some name → 0 < q
 waiter-over {a} {s} typed q name is =
     let (p, found, acquiring_it) = waiting-process a s q name is in over-zero typed q p found

@@ -102,7 +102,7 @@ module _ {a : Acceptance} (accepted : IsAccepted a) {s : State} (typed : IsTyped
 
     pub found-told : (pid : ℕ) → after ≤ from → LowestOver Has from pid → IsReady a s pid
         → IsSought a s w after (Some pid)
-    found-told pid le lowest ready = (omega (arith, le, lowest.over), ready, below pid lowest)
+    found-told pid le lowest ready = (omega (arith, le, lowest.over), ready, below pid lowest, lowest.holds)
 
     pub none-told : NoneOver Has from → IsSought a s w after None
     none-told nothing q over told =

@@ -3,8 +3,6 @@ ghost use Rattle.std.specs.Prelude.{◌≡◌, ◌≢◌, ◌≤◌, ◌<◌, �
 ghost use Rattle.std.specs.BTreeSet.{contains};
 ghost use Rattle.std.specs.Ordering.{nat_cmp};
 ghost use Rattle.nomos_deeds.specs.Lowest.{FindsNext};
-ghost use Rattle.nomos_ready.specs.Covering.{HasProxy, IsFollowed, IsNoted, MayBeReady};
-ghost use Rattle.nomos_ready.specs.mirror.ToldSets.{IsToldOver, Tells};
 
 use std::alloc::Global;
 use std::collections::BTreeSet;
@@ -25,9 +23,15 @@ pub struct Awake {
     pub(crate) sought: u32,
     // Memory was wanting, or it is not known who waits for a contract that opened: any process may be ready.
     pub(crate) lost: bool,
+    // A process that is told as one that may be ready, so that to tell it again is nothing; or 0.
+    pub(crate) top: u32,
+    ghost top_is_told: { 0 < top → IsTrue (contains nat_cmp ready top) },
 }
 
 impl Awake {
+    ghost use Rattle.nomos_ready.specs.Covering.{HasProxy, IsFollowed, IsNoted, MayBeReady};
+    ghost use Rattle.nomos_ready.specs.mirror.ToldSets.{IsToldOver, Tells};
+
     /// No process, where names from this one on are new. It takes no memory.
     pub(crate) fn none(alloc: Global, first_name: u32) -> Awake
         ensures followed { (name : ℕ) → IsFollowed result name → first_name ≤ name }
@@ -40,6 +44,7 @@ impl Awake {
             first_name,
             sought: 0,
             lost: false,
+            top: 0,
         }
     }
 
@@ -49,6 +54,9 @@ impl Awake {
         ensures woken { MayBeReady self.new pid }
         ensures tells { Tells self.old self.new }
     {
+        if pid == self.top && pid > 0 {
+            return;
+        }
         if self.ready.insert(pid).is_err() {
             self.lost = true;
         }
@@ -85,6 +93,9 @@ impl Awake {
         ensures sought { self.new.sought ≡ self.old.sought }
     {
         if self.note(pid, name) {
+            if pid == self.top {
+                self.top = 0;
+            }
             self.ready.remove(&pid);
         }
     }
@@ -108,6 +119,11 @@ impl Awake {
     pub(crate) fn next_over(&self, after: u32) -> Option<u32>
         ensures { FindsNext (λ q. IsTrue (contains nat_cmp self.now.ready q)) after result }
     {
+        if let Some(lowest) = self.ready.first() {
+            if *lowest > after {
+                return Some(*lowest);
+            }
+        }
         let over = (Bound::Excluded(after), Bound::Unbounded);
         self.ready.range(over).next().copied()
     }
@@ -184,15 +200,17 @@ impl Awake {
         !self.lost && (after == 0 || after == self.sought)
     }
 
-    /// The next ready process is this one: the one after it will be sought behind it.
+    /// The next ready process is this one, which is told: the one after it will be sought behind it.
     #[inline(always)]
     pub(crate) fn reach(&mut self, pid: u32)
+        requires { IsTrue (contains nat_cmp self.old.ready pid) }
         ensures sought { self.new.sought ≡ pid - 1 }
         ensures ready { (q : ℕ) → MayBeReady self.old q → MayBeReady self.new q }
         ensures same { self.new.waiting ≡ self.old.waiting }
         ensures followed { (n : ℕ) → IsFollowed self.new n → IsFollowed self.old n }
     {
         self.sought = pid.saturating_sub(1);
+        self.top = pid;
     }
 
     /// A process fires: where it was the next one that was sought, the one after it is sought now.

@@ -33,8 +33,7 @@ fn seek<M: Machine>(awake: &mut Awake, machine: &M, accepted: &Accepted, after: 
     ensures sought { awake.new.sought ≡ awake.old.sought }
     ensures found { IsSought accepted.now (M.state machine.now) awake.new after result }
 {
-    // Where the program is read it is known to be accepted.
-    let _program = accepted.program();
+    accepted.know();
     let mut from = after;
     'looks: while let Some(pid) = awake.next_over(from) {
         if machine.ready(accepted, pid) {
@@ -61,8 +60,7 @@ pub fn next_ready<M: Machine>(
     ensures next { MatchOption result (NoneReady accepted.now (M.state machine.now) after)
         (IsNextReady accepted.now (M.state machine.now) after) }
 {
-    // Where the program is read it is known to be accepted.
-    let _program = accepted.program();
+    accepted.know();
     if !awake.knows_over(after) {
         return machine.next_ready(accepted, after);
     }
@@ -84,8 +82,7 @@ pub fn any_ready<M: Machine>(
     ensures any { MatchOption result (IsQuiet accepted.now (M.state machine.now))
         (IsReady accepted.now (M.state machine.now)) }
 {
-    // Where the program is read it is known to be accepted.
-    let _program = accepted.program();
+    accepted.know();
     match seek(awake, machine, accepted, after) {
         Some(pid) => Some(pid),
         None => next_ready(awake, machine, accepted, 0),

@@ -5,6 +5,7 @@ ghost use Rattle.nomos_ir.specs.Bindings.{bound_to};
 ghost use Rattle.nomos_machine.specs.Sight.{is_own, offering};
 ghost use Rattle.nomos_machine.specs.State.{process_at};
 ghost use Rattle.nomos_machine.specs.declared.object.Process.{Process};
+ghost use Rattle.nomos_deeds.specs.Readers.{acquires_at, waits};
 ghost use Rattle.nomos_ready.specs.Touching.{hands_on, heard_on, meets, no_touch, says_on, touch_at, touch_of};
 
 use crate::touch::{Incoming, Touch};
@@ -101,15 +102,31 @@ fn touch_at<S: Sight>(sight: &S, pid: u32, offers: u32, node: &CodeNode) -> Touc
     }
 }
 
-/// What the firing of the process with this number touches. It takes no memory.
-pub fn touch_of<S: Sight>(sight: &S, accepted: &Accepted, pid: u32) -> Touch
-    ensures { result ≡ touch_of accepted.now (S.state sight.now) pid }
+// The shared name for which the process waits at this instruction, if it does.
+fn waits_at<S: Sight>(sight: &S, pid: u32, node: &CodeNode) -> Option<u32>
+    ensures { (p : Process) → process_at (S.state sight.now) pid ≡ Some p → result ≡ acquires_at p node.now }
 {
-    match sight.process(pid) {
-        Some(seen) => match node_at(accepted, seen.code) {
-            Some(node) => touch_at(sight, pid, seen.offers, node),
-            None => no_touch(),
-        },
-        None => no_touch(),
+    match node {
+        CodeNode::Acquire(_, r, _, _) => sight.channel(pid, *r),
+        _ => None,
+    }
+}
+
+/// What the firing of the process with this number touches, and the shared name for which it waits, if it does. It
+/// takes no memory.
+#[inline(always)]
+pub fn touch_of<S: Sight>(sight: &S, accepted: &Accepted, pid: u32) -> (Touch, Option<u32>)
+    ensures touch { result.0 ≡ touch_of accepted.now (S.state sight.now) pid }
+    ensures waits { result.1 ≡ waits accepted.now (S.state sight.now).objects pid }
+{
+    let Some(seen) = sight.process(pid) else {
+        return (no_touch(), None);
+    };
+    match node_at(accepted, seen.code) {
+        Some(node) => {
+            let touch = touch_at(sight, pid, seen.offers, node);
+            (touch, waits_at(sight, pid, node))
+        }
+        None => (no_touch(), None),
     }
 }

@@ -84,6 +84,17 @@ fn wake_changed<M: Machine>(awake: &mut Awake, machine: &M, accepted: &Accepted,
     }
 }
 
+// The same of the object that came with a firing under this number, if one did.
+#[inline(always)]
+fn wake_born<M: Machine>(awake: &mut Awake, machine: &M, accepted: &Accepted, number: u32)
+    requires { IsTyped accepted.now (M.state machine.now) }
+    ensures { WakesBy accepted.now (M.state machine.now) number awake.old awake.new }
+{
+    if number < machine.next_object() {
+        wake_changed(awake, machine, accepted, number);
+    }
+}
+
 // The same of the process of a number, if there is one.
 fn wake_partner<M: Machine>(
     awake: &mut Awake,
@@ -113,8 +124,7 @@ fn follow_acquired<M: Machine>(
     requires covers { Covers accepted.now (M.state machine.now) awake.old }
     ensures { Covers accepted.now (M.state machine.now) awake.new }
 {
-    // Where the program is read it is known to be accepted.
-    let _program = accepted.program();
+    accepted.know();
     if let Some(name) = awaited {
         awake.follow(name);
     }
@@ -142,9 +152,8 @@ pub fn foresee<M: Machine>(
     ensures covers { Covers accepted.now (M.state machine.now) awake.new }
     ensures foreseen { IsForeseen accepted.now (M.state machine.now) pid result }
 {
-    let waits = machine.waits(accepted, pid);
+    let (touch, waits) = touch_of(machine, accepted, pid);
     follow_acquired(awake, machine, accepted, pid, waits);
-    let touch = touch_of(machine, accepted, pid);
     Foreseen {
         pid,
         next: machine.next_object(),
@@ -190,11 +199,10 @@ pub fn wake_after<M: Machine>(
         → IsForeseen accepted.now s pid foreseen → Covers accepted.now s awake.old
         → Covers accepted.now (M.state machine.now) awake.new }
 {
-    // Where the program is read it is known to be accepted.
-    let _program = accepted.program();
+    accepted.know();
     leave(awake, foreseen);
     wake_changed(awake, machine, accepted, foreseen.pid);
-    wake_changed(awake, machine, accepted, foreseen.next);
+    wake_born(awake, machine, accepted, foreseen.next);
     wake_partner(awake, machine, accepted, foreseen.touch.partner);
     wake_heard(awake, machine, foreseen.touch.heard);
     offer_if(awake, foreseen.waits);
@@ -208,7 +216,6 @@ pub fn wake_spoken<M: Machine>(awake: &mut Awake, machine: &M, accepted: &Accept
     ensures { (s : State) → IsTyped accepted.now s → IsSpokenTo name s (M.state machine.now)
         → Covers accepted.now s awake.old → Covers accepted.now (M.state machine.now) awake.new }
 {
-    // Where the program is read it is known to be accepted.
-    let _program = accepted.program();
+    accepted.know();
     wake_provider(awake, machine, name);
 }

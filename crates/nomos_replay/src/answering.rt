@@ -83,8 +83,7 @@ fn replay_items<M: Undo + Drop>(
         (before trial.now.version (nothing_told from walk.old.limit) items.now) e) }
     ensures counted { IsCounted reading.new.source }
 {
-    // Where the program is read it is known to be accepted.
-    let _program = trial.accepted.program();
+    trial.accepted.know();
     let mut ledger = from;
     'items: for item in items {
         let passed = replay_item(trial, walk, &mut reading.source, ledger, item)?;

@@ -27,6 +27,13 @@ pub(crate) struct KeptEnd {
     pub(crate) end: End,
 }
 
+// How a batch ends where it stands, faults apart, if it does, and of how many firings it has at most.
+#[derive(Drop)]
+struct GivenEnd {
+    most: u32,
+    end: Option<End>,
+}
+
 // Whether this end is given by a state, of which it is known how the batch ends there, faults apart.
 fn gives(given: &Option<End>, end: &End) -> bool
     ensures { (a : Acceptance) (s : State) (count most : ℕ)
@@ -61,21 +68,21 @@ fn may_end<M: Undo>(
     alloc: Global,
     accepted: &Accepted,
     world: &World<M>,
-    most: u32,
-    given: &Option<End>,
+    given: &GivenEnd,
     end: &End,
 ) -> Result<bool, AllocError>
     requires stands { WorldStandsFor accepted.now world.now }
-    requires given { MatchOption given.now (GoesOn accepted.now world.now.state (length world.now.firings) most)
-        (EndsAs accepted.now world.now.state (length world.now.firings) most) }
+    requires given { MatchOption given.now.end
+        (GoesOn accepted.now world.now.state (length world.now.firings) given.now.most)
+        (EndsAs accepted.now world.now.state (length world.now.firings) given.now.most) }
     ensures { IfOk result (λ may. IsTrue may
-        ↔ IsAllowed accepted.now world.now.state (length world.now.firings) most end.now) }
+        ↔ IsAllowed accepted.now world.now.state (length world.now.firings) given.now.most end.now) }
 {
     if let End::Aborted(pid, cause) = end {
         let has = has_fault(alloc, accepted, world, *pid, *cause)?;
-        return Ok(has && world.firings().len() < most as usize);
+        return Ok(has && world.firings().len() < given.most as usize);
     }
-    Ok(gives(given, end))
+    Ok(gives(&given.end, end))
 }
 
 // The end that is found of a batch, of which it is known how it ends here, faults apart.
@@ -116,11 +123,12 @@ pub(crate) fn judge_end<M: Undo>(
         (EndStops accepted.now watched.old.world.state (length watched.old.world.firings) most kept) }
 {
     let KeptEnd { at, end } = kept;
-    let given = watched.end(accepted, most);
-    if may_end(alloc, accepted, &watched.world, most, &given, &end)? {
+    let ended = watched.end(accepted, most);
+    let given = GivenEnd { most, end: ended };
+    if may_end(alloc, accepted, &watched.world, &given, &end)? {
         return Ok(end);
     }
-    let found = found_end(alloc, accepted, &watched.world, given)?;
+    let found = found_end(alloc, accepted, &watched.world, given.end)?;
     Err(ReplayError::WrongEnd {
         line: at,
         kept: end,

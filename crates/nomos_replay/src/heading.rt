@@ -28,8 +28,7 @@ pub(crate) fn read_version(
         (Stops accepted.now first all source.old at_head) }
     ensures counted { IsCounted source.new }
 {
-    // Where the program is read it is known to be accepted.
-    let _program = accepted.program();
+    accepted.know();
     let line = source.next_line(alloc, accepted)?;
     match version_in(line) {
         Some(version) => Ok(version),
@@ -50,8 +49,7 @@ pub(crate) fn read_limit(
         (Stops accepted.now first all source.old (at_steps v)) }
     ensures counted { IsCounted source.new }
 {
-    // Where the program is read it is known to be accepted.
-    let _program = accepted.program();
+    accepted.know();
     let line = source.next_line(alloc, accepted)?;
     match limit_in(line) {
         Some(limit) => Ok(limit),

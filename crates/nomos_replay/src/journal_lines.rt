@@ -29,8 +29,7 @@ impl<'a> JournalLines<'a> {
         ensures err { IfErr result (IsNoLine accepted.now.annotations.unit self.old) }
         ensures counted { IsCounted self.new }
     {
-        // Where the program is read it is known to be accepted.
-        let _program = accepted.program();
+        accepted.know();
         match self.lines.next_line() {
             Some(TextLine::Whole(text)) => {
                 self.at += 1;

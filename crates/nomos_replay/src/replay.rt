@@ -81,9 +81,9 @@ pub fn replay_from<M: Undo + Drop>(
         → MatchResult result (λ _. ⊥) (λ e. (e ≡ why) ⊎ (e ≡ ReplayError.NoMemory)) }
     ensures stands { IfOk result (λ r. StandsFor accepted.now r.ledger) }
 {
-    // Where the program is read it is known to be accepted, where the items are, how many they are and how they are
-    // written, and where an account is, that its ledger is one.
-    let _program = accepted.program();
+    // Where the items are read it is known how many they are and how they are written, and where an account is, that
+    // its ledger is one.
+    accepted.know();
     let _items = script.items();
     let _account = from.account(0);
     let wanted = WantedTexts {
@@ -96,6 +96,12 @@ pub fn replay_from<M: Undo + Drop>(
 }
 
 /// Reads the text of a journal of a script and runs it from the empty ledger: see `replay_from`.
+///
+/// ```
+/// // `text` is what `run_script` gave as the text of its journal.
+/// let replayed = replay::<IndexedState>(alloc, &accepted, &script, &text)?;
+/// // Its report is that of the run, byte for byte.
+/// ```
 pub fn replay<M: Undo + Drop>(
     alloc: Global,
     accepted: &Accepted,

@@ -45,9 +45,9 @@ fn papers_by<M: Undo + Drop>(
     ensures { IfOk result
         (ArePapersOf accepted.now from asked.entry.script.now journal.now asked.entry.wanted) }
 {
-    // Where the program is read it is known to be accepted, where the items are, how many they are and how they are
-    // written, and where an account is, that its ledger is one.
-    let _program = accepted.program();
+    // Where the items are read it is known how many they are and how they are written, and where an account is, that
+    // its ledger is one.
+    accepted.know();
     let _items = asked.script.items();
     let _account = from.account(0);
     let text = text_in_one(alloc, accepted.unit(), journal)?;

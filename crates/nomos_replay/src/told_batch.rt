@@ -50,8 +50,7 @@ pub(crate) fn replay_firings<M: Undo>(
     ensures counted { IsCounted source.new }
     ensures ran { IfOk result (λ _. RunsOn trial.now.accepted.now most watched.old.world watched.new.world) }
 {
-    // Where the program is read it is known to be accepted.
-    let _program = trial.accepted.program();
+    trial.accepted.know();
     'lines: loop {
         let line = source.next_line(trial.alloc, trial.accepted)?;
         match end_in(line) {

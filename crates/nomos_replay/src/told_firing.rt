@@ -81,8 +81,7 @@ fn fire_if_ready<M: Undo>(
     ensures stands { WorldStandsFor accepted.now watched.new.world }
     ensures watched { IsWatched accepted.now watched.new.world.state watched.new.awake }
 {
-    // Where the program is read it is known to be accepted.
-    let _program = accepted.program();
+    accepted.know();
     if !watched.world.state().ready(accepted, pid) {
         return Ok(false);
     }

@@ -59,8 +59,7 @@ fn read_item_line(
         → Stops trial.now.accepted.now first all source.old (before trial.now.version told (i ∷ items)) e) }
     ensures counted { IsCounted source.new }
 {
-    // Where the program is read it is known to be accepted.
-    let _program = trial.accepted.program();
+    trial.accepted.know();
     let line = source.next_line(trial.alloc, trial.accepted)?;
     let named = names_line(line, at);
     if named {
@@ -101,8 +100,7 @@ fn read_own_end(
     ensures err { IfErr result (StopsAtOwn trial.now.accepted.now trial.now.version source.old own) }
     ensures counted { IsCounted source.new }
 {
-    // Where the program is read it is known to be accepted.
-    let _program = trial.accepted.program();
+    trial.accepted.know();
     let line = source.next_line(trial.alloc, trial.accepted)?;
     let kept = match end_in(line) {
         Ok(kept) => kept,

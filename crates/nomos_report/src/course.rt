@@ -186,8 +186,7 @@ pub fn push_batch_end<M: Undo>(
         ≡ text.old.items ++ end_lines accepted.now outset.line (length world.now.firings)
         (ledger_begun accepted.now world.now).state.spent world.now.state end.now) }
 {
-    // Where the program is read it is known to be accepted.
-    let _program = accepted.program();
+    accepted.know();
     let course = Course {
         line: outset.line,
         count: world.firings().len() as u64,

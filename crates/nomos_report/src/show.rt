@@ -154,8 +154,7 @@ fn push_name<M: Machine>(
     requires { IsTyped accepted.now (M.state machine.now) }
     ensures { OnOk result (text.new.items ≡ text.old.items ++ name_line accepted.now (M.state machine.now) name) }
 {
-    // Where the program is read it is known to be accepted.
-    let _program = accepted.program();
+    accepted.know();
     push_owner(text, name, machine.owner(accepted, name))
 }
 
@@ -169,8 +168,7 @@ fn push_channels<M: Machine>(
     ensures { OnOk result (text.new.items
         ≡ text.old.items ++ flat_map (channel_line accepted.now (M.state machine.now)) (M.state machine.now).types) }
 {
-    // Where the program is read it is known to be accepted.
-    let _program = accepted.program();
+    accepted.know();
     let mut name = 0;
     // No state that is reached has the name 0; a typed one may have it.
     push_name(text, accepted, machine, name)?;
@@ -212,8 +210,7 @@ pub fn push_show<M: Undo>(
     requires { StandsFor accepted.now ledger.now }
     ensures { OnOk result (text.new.items ≡ text.old.items ++ show_lines accepted.now line ledger.now) }
 {
-    // Where the program is read it is known to be accepted.
-    let _program = accepted.program();
+    accepted.know();
     push_front(text, line)?;
     push_word(text, b"show\n")?;
     push_accounts(text, accepted.unit(), ledger)?;

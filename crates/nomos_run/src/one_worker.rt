@@ -63,8 +63,7 @@ fn carry_out<M: Undo + Drop>(
     requires made { walk.old.made ≤ max_firings }
     ensures { IfOk result (λ passed. CarriesOut (Crew.One policy) walk.old ledger item.now passed walk.new) }
 {
-    // Where the program is read it is known to be accepted.
-    let _program = walk.accepted().program();
+    walk.accepted().know();
     match walk.start(alloc, ledger, item)? {
         StartedItem::Passed(passed) => Ok(passed),
         StartedItem::UnderWay(under) => fire_batch(policy, alloc, walk, under),
@@ -91,8 +90,7 @@ fn run_items<M: Undo + Drop>(
         HasGone way.old.walk.accepted from orders items.now way.new.entries.items last way.new.walk) }
     ensures err { OnErr result (RunsSoFar way.old.walk.accepted from items.now orders way.new.entries.items) }
 {
-    // Where the program is read it is known to be accepted.
-    let _program = way.walk.accepted().program();
+    way.walk.accepted().know();
     let Crew::One(policy) = orders.crew else {
         unreachable!()
     };
@@ -125,8 +123,7 @@ pub fn run_from<M: Undo + Drop>(
     ensures report { IfSome result.finished (λ f.
         IsReportFrom accepted.now from script.now result.journal f.report.items) }
 {
-    // Where the program is read it is known to be accepted.
-    let _program = accepted.program();
+    accepted.know();
     know_ledger(&from);
     let Ok(mut way) = begin(alloc, accepted, orders) else {
         return end_at_once(alloc, orders.limit);
@@ -137,6 +134,15 @@ pub fn run_from<M: Undo + Drop>(
 }
 
 /// Runs a script by one worker, from the empty ledger: see `run_from`.
+///
+/// ```
+/// let accepted = accept(alloc, b"proc T twice(n : int;) = emit n + n; close;")?;
+/// let script = parse_script(alloc, b"deposit ann 5\nexec ann twice(21;)\n")?;
+/// let crew = Crew::One(Policy::First);
+/// let orders = Orders { crew, limit: 1_000_000, text: true, result: true };
+/// let ran = run_script::<IndexedState>(orders, alloc, &accepted, &script);
+/// // The report says `line 2 committed firings 2 spent 0`, and `result 1 42` behind it.
+/// ```
 pub fn run_script<M: Undo + Drop>(
     orders: Orders,
     alloc: Global,

@@ -138,8 +138,7 @@ pub fn run_script_by_crew<M: Undo + Drop + Send, G: Gate, R: Threads + Wait + Sy
         Crew::One(_) => return run_script(orders, alloc, accepted, script),
         Crew::Many(workers) => workers,
     };
-    // Where the program is read it is known to be accepted.
-    let _program = accepted.program();
+    accepted.know();
     let from = Ledger::empty(alloc);
     know_ledger(&from);
     let Ok(way) = begin(alloc, accepted, orders) else {

@@ -40,8 +40,8 @@ fn ledger_behind<R: Abort + AllocGlobal + Threads + Wait + Sync>(
     ensures stands { StandsFor accepted.now result }
     ensures numbered { HasNumbered (2 ^ 20 + 20000000) result.state }
 {
-    // Where the program is read it is known to be accepted, and where the items are, how many they are.
-    let _program = accepted.program();
+    // Where the items are read it is known how many they are.
+    accepted.know();
     let script = script_of(rt, text);
     let _items = script.items();
     let orders = Orders {
@@ -86,8 +86,7 @@ pub(crate) fn world_of<R: Abort + AllocGlobal + Threads + Wait + Sync>(
 ) -> World<IndexedState>
     ensures { (limit : ℕ) → limit ≤ 1000000 → MayRun accepted.now limit result }
 {
-    // Where the program is read it is known to be accepted.
-    let _program = accepted.program();
+    accepted.know();
     let ledger = ledger_behind(rt, accepted, before);
     let script = script_of(rt, batch);
     match ledger.begin(rt.alloc(), accepted, first_batch(rt, &script)) {

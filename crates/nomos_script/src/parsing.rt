@@ -64,6 +64,11 @@ fn read_items(alloc: Global, text: &[u8]) -> Result<ScriptItems, ScriptError>
 
 /// The script of a text, as docs/TEXTS.md, "The script", defines it. A text that is too long is refused as such,
 /// whatever its bytes are. Want of memory is the one answer for which no reason is given.
+///
+/// ```
+/// let script = parse_script(alloc, b"deposit ann 5\nexec ann twice(21;)\n")?;
+/// assert_eq!(script.items().as_slice().len(), 2);
+/// ```
 pub fn parse_script(alloc: Global, bytes: &[u8]) -> Result<Script, ScriptError>
     ensures read { IfOk result (λ script. ReadsAs bytes.now script) }
     ensures only { IfOk result (λ script. (items : List ScriptItem) → ReadsAs bytes.now items → items ≡ script) }

@@ -251,6 +251,19 @@ fn push_empty(cells: &mut Column<Option<NamedVariable>>, count: usize)
     }
 }
 
+// Empties a cell. Nothing is written where it is empty, so that the log has no record of it.
+fn empty_at(cells: &mut Column<Option<NamedVariable>>, at: usize)
+    requires seats { length cells.old.now ≤ cells.old.seats }
+    requires within { at < length cells.old.now }
+    ensures now { cells.new.now ≡ slice_set cells.old.now at None }
+    ensures seats { cells.new.seats ≡ cells.old.seats }
+    ensures marked { cells.new.marked ≡ cells.old.marked }
+{
+    if cell(cells, at).is_some() {
+        cells.put(at, None);
+    }
+}
+
 /// Empties all cells.
 pub(crate) fn empty_all(cells: &mut Column<Option<NamedVariable>>)
     requires seats { length cells.old.now ≤ cells.old.seats }
@@ -260,7 +273,7 @@ pub(crate) fn empty_all(cells: &mut Column<Option<NamedVariable>>)
     ensures marked { cells.new.marked ≡ cells.old.marked }
 {
     for at in 0..cells.len() {
-        cells.put(at, None);
+        empty_at(cells, at);
     }
 }
 

@@ -115,7 +115,7 @@ fn halved_place<T: Copy>(slots: &Column<Slot<T>>, number: u32) -> Option<usize>
     None
 }
 
-// The place of the slot of this number.
+// The place of the slot of this number. Where the number is above all that have slots, that is seen at the last one.
 #[inline(always)]
 fn place_in<T: Copy>(slots: &Column<Slot<T>>, seen: &[u32], number: u32) -> Option<usize>
     requires { IsAscending slots.now.now }
@@ -123,6 +123,11 @@ fn place_in<T: Copy>(slots: &Column<Slot<T>>, seen: &[u32], number: u32) -> Opti
 {
     if let Some(place) = remembered(slots, seen, number) {
         return Some(place);
+    }
+    let end = slots.len().checked_sub(1)?;
+    let last = slots.get(end)?;
+    if last.number < number {
+        return None;
     }
     if let Some(place) = guessed_from_last(slots, number) {
         return Some(place);

@@ -3,7 +3,7 @@ use Rattle.std.proofs.Common.{◌≡◌, ◌≢◌, ◌↔◌, ℕ, ◌+◌, ◌
 use Rattle.std.specs.Global.{Global}
 use Rattle.std.specs.Option.{option_map, option_to_list}
 use Rattle.std.proofs.lemmas.List.{append-nil, length-append, map-append}
-use Rattle.std.proofs.lemmas.List.Elements.{All-cons, All-head, All-nil, All-push, All-tail}
+use Rattle.std.proofs.lemmas.List.Elements.{All-head, All-nil, All-push, All-tail}
 use Rattle.std.proofs.lemmas.Bool.{false≢true}
 use Rattle.nomos_deeds.specs.declared.sight.SeenProcess.{SeenProcess}
 use Rattle.nomos_ir.specs.Value.{Value}
@@ -28,6 +28,7 @@ use Rattle.nomos_snapshot.specs.declared.told_lines.ToldObject.{ToldObject}
 use Rattle.nomos_snapshot.specs.declared.told_lines.ToldObject.TheVariants as told_object
 use Rattle.nomos_snapshot.specs.declared.told_lines.ToldProcess.{ToldProcess}
 use Rattle.nomos_snapshot.specs.ToldLines.{IsKept, IsProcessKept, IsSettled, LeadsOn, PutsBehind, list_told, object_told, process_told, told}
+use Rattle.nomos_types.proofs.AmountLaws.{all-first}
 use Rattle.nomos_snapshot.proofs.ProcessLaws.{over-channel, over-list, over-value}
 
 -- ---- lists
@@ -35,11 +36,6 @@ use Rattle.nomos_snapshot.proofs.ProcessLaws.{over-channel, over-list, over-valu
 last-of : {X : Type 0} (P : X → Type 0) (xs : List X) (x : X) → All P (xs ++ x ∷ []) → P x
 last-of P [] x all = All-head P x [] all
 last-of P (y ∷ xs) x all = last-of P xs x (All-tail P y (xs ++ x ∷ []) all)
-
-fronts-of : {X : Type 0} (P : X → Type 0) (xs ys : List X) → All P (xs ++ ys) → All P xs
-fronts-of P [] ys all = All-nil P
-fronts-of P (x ∷ xs) ys all = All-cons P x xs (All-head P x (xs ++ ys) all) (fronts-of P xs ys (All-tail P x
-    (xs ++ ys) all))
 
 pub none-long : {X : Type 0} (xs : List X) → ¬ (0 < length xs) → xs ≡ []
 none-long [] none = refl
@@ -443,7 +439,7 @@ message-taken g h objects m from kept settle low more over =
 same-number : (n : ℕ) (os : List Object) (o p : Object) → object_number o ≡ object_number p
     → All (λ q. object_number q < n) (os ++ o ∷ []) → All (λ q. object_number q < n) (os ++ p ∷ [])
 same-number n os o p same all =
-    All-push (λ (q : Object). object_number q < n) os p (fronts-of (λ (q : Object). object_number q < n) os
+    All-push (λ (q : Object). object_number q < n) os p (all-first (λ (q : Object). object_number q < n) os
     (o ∷ []) all)
     (subst (λ k. k < n) same (last-of (λ (q : Object). object_number q < n) os o all))
 

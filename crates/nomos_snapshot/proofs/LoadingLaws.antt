@@ -1,18 +1,13 @@
 -- A text is loaded as one ledger at most, which stands for the program; one that does is loaded from its snapshot.
-use Rattle.std.proofs.Common.{◌≡◌, ℕ, zero, suc, ◌+◌, ◌<◌, ◌≤◌, ◌/◌, List, [], ◌∷◌, length, All, Option, Some, None, Result, Ok, Err, refl, ap, sym, subst, ◌∙◌, inl, inr, arith, length-append}
+use Rattle.std.proofs.Common.{◌≡◌, ℕ, ◌+◌, ◌<◌, ◌≤◌, ◌/◌, List, [], ◌∷◌, length, All, None, Result, Ok, Err, refl, ap, sym, subst, ◌∙◌, inl, inr, arith, length-append}
 use Rattle.std.proofs.Math.Nat.{mul-div_cancel}
 use Rattle.std.proofs.lemmas.Bool.{cases_lt}
-use Rattle.std.proofs.lemmas.List.Elements.{All-cons, All-contains, All-head, All-nil, All-tail}
+use Rattle.std.proofs.lemmas.List.Elements.{All-cons, All-head, All-nil, All-tail}
 use Rattle.nomos_legal.specs.Ledger.{IsLedger, LedgerState}
 use Rattle.nomos_legal.specs.StandsFor.{StandsFor}
-use Rattle.nomos_machine.specs.Objects.{object_number}
-use Rattle.nomos_machine.specs.Run.{IsNextReady, IsQuiet, NoneReady}
-use Rattle.nomos_machine.specs.State.{State, process_at}
-use Rattle.nomos_machine.specs.TypedState.{IsTyped, Numbered}
-use Rattle.nomos_machine.specs.declared.object.Object.{Object}
-use Rattle.nomos_machine.specs.declared.object.Object.TheVariants as object
-use Rattle.nomos_machine.specs.declared.object.Process.{Process}
-use Rattle.nomos_machine.proofs.PreservationLaws.{process_at-there, ready-none}
+use Rattle.nomos_machine.specs.Run.{IsNextReady, NoneReady}
+use Rattle.nomos_machine.specs.State.{State}
+use Rattle.nomos_ledger.proofs.ReadyLaws.{none_ready-quiet}
 use Rattle.nomos_types.specs.Acceptance.{Acceptance, IsAccepted}
 use Rattle.nomos_snapshot.specs.GatheredLines.{Gathered, Goes, Stand, at_head, behind, ledger_of, no_ledger}
 use Rattle.nomos_snapshot.specs.GatheredLines as gathering
@@ -180,19 +175,6 @@ reads-early {k = k} (reading.bad at stand text wants none) is =
 
 -- ---- what is loaded stands for the program
 
-none-zero : {s : State} → Numbered s → (o : Option Process) → process_at s 0 ≡ o → process_at s 0 ≡ None
-none-zero {s} numbered None is = is
-none-zero {s} numbered (Some p) is =
-    let (there, number) = process_at-there s 0 p is in
-    let over : 0 < object_number (object.Process p) =
-    All-contains (λ (o : Object). 0 < object_number o) s.objects (object.Process p) numbered.over there in
-    absurd (omega (arith, number, over))
-
-none-quiet : {a : Acceptance} → IsAccepted a → {s : State} → IsTyped a s → NoneReady a s 0 → IsQuiet a s
-none-quiet accepted {s} typed none zero ready =
-    ready-none accepted typed 0 (none-zero typed.numbered (process_at s 0) refl) ready
-none-quiet accepted {s} typed none (suc q) ready = none (suc q) (omega arith) ready
-
 -- What a text is loaded as: its snapshot is the text, it stands for the program, and its next numbers are low.
 pub record IsLoadedFrom (a : Acceptance) (text : List ℕ) (l : LedgerState) : Type 0 where
   pub text_is : text ≡ snapshot_text a l
@@ -221,7 +203,7 @@ admitted-loaded {a} {text} {told} accepted short reads (loading.admitted units s
           gas = worth.is;
           contracts = sound.contracts;
         };
-        quiet = none-quiet accepted sound.typed quiet;
+        quiet = none_ready-quiet accepted sound.typed quiet;
         no_transaction = sound.no_transaction;
       };
       low = told-low bare;

@@ -39,7 +39,7 @@ fn is_shared<M: Machine>(accepted: &Accepted, machine: &M, modes: &[Mode], name:
     requires { AreModesOf accepted.now.program modes.now }
     ensures { IsTrue result ↔ IsContractName accepted.now (M.state machine.now) name }
 {
-    let _program = accepted.program();
+    accepted.know();
     match machine.name_type(name) {
         Some(t) => is_of_mode_s(modes, t),
         None => false,
@@ -108,8 +108,7 @@ pub fn parts_told(alloc: Global, accepted: &Accepted, text: &[u8]) -> Result<Led
     ensures ok { IfOk result (λ parts. TellsLedger accepted.now text.now (parts_ledger parts)) }
     ensures err { IfErr result (λ why. why ≢ LoadError.NoMemory → Loads accepted.now text.now (Err why)) }
 {
-    // Where the program is read it is known to be accepted.
-    let _program = accepted.program();
+    accepted.know();
     let gathering = read_told(alloc, accepted, text)?;
     if gathering.has_wide_list() {
         drop(gathering);
@@ -229,7 +228,6 @@ pub fn load<M: Contents + Drop>(
     ensures whole { (l : LedgerState) → HasSnapshot accepted.now l → text.now ≡ snapshot_text accepted.now l
         → MatchResult result (λ k. k ≡ l) (λ why. why ≡ LoadError.NoMemory) }
 {
-    // Where the program is read it is known to be accepted.
-    let _program = accepted.program();
+    accepted.know();
     loaded(alloc, accepted, text)
 }

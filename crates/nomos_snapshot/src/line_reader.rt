@@ -81,7 +81,7 @@ impl<'a> LineReader<'a> {
             ((l : Told) → IsLine self.now l → text.now ≢ line_text self.now l)
             (λ l. IsLine self.now l × (text.now ≡ line_text self.now l))) }
     {
-        let _lists = self.program.lists();
+        self.program.know();
         let mut words = Words::of(text);
         let Some(first) = words.next_word() else {
             return Ok(None);

@@ -138,8 +138,8 @@ pub fn deposits_of(
         (λ units. IsWorth accepted.now (gas_of (state_of contents.now)) units)
         (λ gas. (gas ≡ gas_of (state_of contents.now)) × ((units : ℕ) → ¬ (IsWorth accepted.now gas units)))) }
 {
-    // Where the program is read it is known to be accepted, and so to have a unit.
-    let _program = accepted.program();
+    // An accepted program has a unit.
+    accepted.know();
     let gas = gas_of(contents)?;
     Ok(units_of(gas, accepted.unit()))
 }

@@ -57,7 +57,7 @@ pub fn gather(
     ensures kept { IfOk result (λ answer. IfOk answer IsKept) }
 {
     let program = accepted.program();
-    let _lists = program.lists();
+    program.know();
     let reader = LineReader::of(alloc, program)?;
     let mut stand = TextStand::Head;
     let mut at = 1;

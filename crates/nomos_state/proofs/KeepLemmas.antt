@@ -213,6 +213,16 @@ carries-tallied t s u pid p f of there becomes offers base channels =
     (moves-still t (channels_used p) (channels_used (f p))
     (λ d name. sym (ap (λ (cs : List (VarId × ℕ)). count_of name (only doing.Uses (map (λ e. e.1) cs) d)) channels)))
 
+-- and where there is no such process nothing changes
+pub carries-either : (t : Tallies) (s u : State) (pid : ℕ) (f : Process → Process) → AreTalliesOf t s
+    → Becomes s pid f u → (process_at s pid ≡ None → u ≡ s) → ((p : Process) → (f p).offers ≡ p.offers)
+    → ((p : Process) → (f p).base ≡ p.base) → ((p : Process) → (f p).channels ≡ p.channels) → AreTalliesOf t u
+carries-either t s u pid f of becomes none offers base channels = at (process_at s pid) refl
+  where
+    at : (o : Option Process) → process_at s pid ≡ o → AreTalliesOf t u
+    at (Some p) there = carries-tallied t s u pid p f of there becomes (offers p) (base p) (channels p)
+    at None there = subst (AreTalliesOf t) (sym (none there)) of
+
 -- an object is found that came last, where none had its number
 found-last : (number : ℕ) (o : Object) (objects : List Object) → object_number o ≡ number
     → object_at objects number ≡ None → object_at (objects ++ o ∷ []) number ≡ Some o
@@ -231,7 +241,7 @@ process-come s number p own none =
     ap (option_and_then process_of) (found-last number (object.Process p) s.objects own none)
 
 -- a process is found that stands in the place of another
-process-put : (s : State) (pid : ℕ) (p q : Process) → process_at s pid ≡ Some p → q.pid ≡ p.pid
+pub process-put : (s : State) (pid : ℕ) (p q : Process) → process_at s pid ≡ Some p → q.pid ≡ p.pid
     → process_at (with_process pid q s) pid ≡ Some q
 process-put s pid p q there keeps =
     let own : p.pid ≡ pid = (process_at-there s pid p there).1 in
@@ -272,6 +282,34 @@ module _ (s t : State) (pid : ℕ) (p : Process) (channels : List (VarId × ℕ)
         (channels_used p) out (back p found.1) (λ d name. omega arith))
         (λ right shifts d name.
         omega (arith, shifts d name, right d name, ap (λ (u : State). times (names_of d) u.objects name) same))
+
+-- The channels of a process are counted out; where there is no such process nothing is.
+module _ (s : State) (pid : ℕ) (before between : Tallies)
+    (out : (p : Process) → process_at s pid ≡ Some p → Moves before between (channels_used p) nothing)
+    (still : process_at s pid ≡ None → between ≡ before) where
+  pub out-order : (o : Option Process) → process_at s pid ≡ o
+      → numbers between.names.now ≡ numbers before.names.now
+  out-order (Some p) there = (out p there).order
+  out-order None missing = ap (λ (u : Tallies). numbers u.names.now) (still missing)
+
+  -- They are replaced or not, and what is there is counted in.
+  module _ (t : State) (channels : List (VarId × ℕ)) (after : Tallies) (of : AreTalliesOf before s)
+      (result : Result (Unit {0}) AllocError) (becomes : OnOk result (Becomes s pid (with_channels channels) t))
+      (same : OnErr result (t ≡ s)) (none : process_at s pid ≡ None → t ≡ s)
+      (back : (q : Process) → process_at t pid ≡ Some q → Moves between after nothing (channels_used q))
+      (again : process_at s pid ≡ None → after ≡ between) where
+    pub either-tallied : (o : Option Process) → process_at s pid ≡ o → AreTalliesOf after t
+    either-tallied (Some p) there =
+        replaced-tallied s t pid p channels there before between after of (out p there) result becomes same back
+    either-tallied None missing =
+        subst (AreTalliesOf after) (sym (none missing))
+        (subst (λ (u : Tallies). AreTalliesOf u s) (sym (again missing ∙ still missing)) of)
+
+    pub either-marked : (o : Option Process) → process_at s pid ≡ o → after.names.marked ≡ before.names.marked
+    either-marked (Some p) there =
+        let stands = replaced-there s t pid p channels there result becomes same in
+        (back stands.0 stands.1).marked ∙ (out p there).marked
+    either-marked None missing = ap (λ (u : Tallies). u.names.marked) (again missing ∙ still missing)
 
 -- what a process does by its channels and by its plain fields is what it does with names
 pub process-counted : (p : Process) (x : SeenProcess) → x.offers ≡ p.offers → x.base ≡ p.base → (d : NameUse) (name : ℕ)
@@ -325,6 +363,11 @@ seen-there f (Some x) y is = (x, refl, same y (f x) is)
     same : {Y : Type 0} (a b : Y) → Some a ≡ Some b → a ≡ b
     same a b e = cc
 seen-there f None y is = absurd cc
+
+-- and of nothing that is seen there is nothing
+pub none-there : {X Y : Type 0} (f : X → Y) (o : Option X) → None ≡ option_map f o → o ≡ None
+none-there f (Some x) is = absurd cc
+none-there f None is = refl
 
 -- one exchange of the name that is provided, and one of the base, make the exchange of plain fields
 pub fields-moves : (a b c : Tallies) (p q : Process) (offers : ℕ) (base : Option ℕ) → offers ≡ p.offers → base ≡ p.base

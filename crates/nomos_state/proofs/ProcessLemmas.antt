@@ -4,6 +4,7 @@ use Rattle.std.proofs.lemmas.Option.{none-some, same_Some}
 use Rattle.std.specs.List.{slice_get}
 use Rattle.std.specs.Option.{option_map}
 use Rattle.nomos_machine.specs.Optional.{◌>>=◌}
+use Rattle.nomos_machine.specs.State.{State, process_at}
 use Rattle.nomos_machine.specs.declared.object.Process.{Process}
 use Rattle.nomos_changes.specs.SmallChanges.{Becomes, with_process}
 use Rattle.nomos_slots.specs.Cells.{name_in}
@@ -99,3 +100,19 @@ module _ (before after : Holding) (is : IsHolding before) (pid place : ℕ) (k n
       let is_held : p ≡ held = same_Some p held (sym found ∙ at.found) in
       comes-state before after is place pid (kept.Process k) (Some (kept.Process next)) values its_lists can comes
       ∙ ap (λ (q : Process). with_process pid q (state_of before)) (sym (ap f is_held ∙ same))
+
+-- where a process was found it is not so that there is none
+pub not-none : (s : State) (h : Holding) (pid place : ℕ) (k : KeptProcess) → state_of h ≡ s → ProcessIsAt h pid place k
+    → process_at s pid ≡ None → ⊥
+not-none s h pid place k same at none =
+    none-some (process_held h.cells pid (values_at h place) (lists_at h place) k)
+    (sym (ap (λ (t : State). process_at t pid) same ∙ none) ∙ at.found)
+
+-- what is told of the process that was found is told of the one that is there
+pub told-there : {X : Type 0} (f : Process → X) (s : State) (h : Holding) (pid place : ℕ) (k : KeptProcess)
+    → state_of h ≡ s → ProcessIsAt h pid place k → (x : X)
+    → x ≡ f (process_held h.cells pid (values_at h place) (lists_at h place) k)
+    → Some x ≡ option_map f (process_at s pid)
+told-there f s h pid place k same at x is =
+    ap (λ y. Some y) is
+    ∙ sym (ap (option_map f) (sym (ap (λ (t : State). process_at t pid) same) ∙ at.found))

@@ -1,3 +1,5 @@
+pub mod LongNumber
+pub mod PurseDths
 pub mod Objects
 pub mod Spanning
 pub mod Indexed

@@ -1,5 +1,5 @@
 -- Among which variables the channels of a process may stand.
-use Rattle.std.specs.Prelude.{◌≡◌, ◌≤◌, ◌/◌, ◌%◌, ℕ, true, Option, Some, None}
+use Rattle.std.specs.Prelude.{◌≡◌, ◌≤◌, ◌+◌, ◌*◌, ◌/◌, ◌%◌, ◌^◌, ℕ, true, Option, Some, None}
 use Rattle.nomos_slots.specs.Levels.{has_bit}
 use Rattle.nomos_state.specs.declared.kept.Kept.{Kept}
 use Rattle.nomos_state.specs.declared.kept.Kept.TheVariants as kept
@@ -9,10 +9,14 @@ use Rattle.nomos_state.specs.declared.span.Span.{Span}
 abbrev pub row_bit : ℕ → ℕ
 row_bit v = v / 128 % 64
 
+-- the bits of the rows of a span
+abbrev pub rows_of : Span → ℕ
+rows_of span = span.high_rows * 2 ^ 32 + span.low_rows
+
 -- the variable is in the span, where there is one
 abbrev pub HasVariable : Option Span → ℕ → Type 0
 HasVariable None v = ⊥
-HasVariable (Some span) v = (span.low ≤ v) × (v ≤ span.high) × (has_bit span.rows (row_bit v) ≡ true)
+HasVariable (Some span) v = (span.low ≤ v) × (v ≤ span.high) × (has_bit (rows_of span) (row_bit v) ≡ true)
 
 -- a process stands there, in whose span the variable is
 abbrev pub Spans : Option Kept → ℕ → Type 0

@@ -45,15 +45,15 @@ impl Parts for Inside {
     }
 
     fn set_fields(&mut self, fields: SeenProcess) {
-        self.set_fields(fields);
+        let _before = self.set_fields(fields);
     }
 
     fn bind_channel(&mut self, pid: u32, v: VarId, name: u32) {
-        self.bind_channel(pid, v, name);
+        let _before = self.bind_channel(pid, v, name);
     }
 
     fn unbind_channel(&mut self, pid: u32, v: VarId) {
-        self.unbind_channel(pid, v);
+        let _before = self.unbind_channel(pid, v);
     }
 
     fn replace_channels(
@@ -62,7 +62,8 @@ impl Parts for Inside {
         pid: u32,
         channels: Vec<(VarId, u32)>,
     ) -> Result<(), AllocError> {
-        self.replace_channels(alloc, pid, channels)
+        let _span = self.replace_channels(alloc, pid, channels)?;
+        Ok(())
     }
 
     fn bind_value(

@@ -1,6 +1,11 @@
 //! A process of an indexed state changes: its plain fields, its channels, its values, its lists.
-ghost use Rattle.std.specs.Prelude.{◌≡◌, ◌≤◌, ◌<◌, ◌+◌, IsTrue, OnErr, OnOk, Some};
+ghost use Rattle.std.specs.Prelude.{◌≡◌, ◌≤◌, ◌<◌, ◌+◌, IsTrue, None, OnErr, OnOk, Some};
+ghost use Rattle.std.specs.Option.{option_map};
+ghost use Rattle.nomos_deeds.specs.SeenObjects.{seen_process};
+ghost use Rattle.nomos_ir.specs.Bindings.{IsAscending, bound_to};
 ghost use Rattle.nomos_machine.specs.Revised.{with_channel, with_value, without_channel};
+ghost use Rattle.nomos_machine.specs.State.{process_at};
+ghost use Rattle.nomos_machine.specs.declared.object.Process.{Process};
 ghost use Rattle.nomos_changes.specs.SmallChanges.{Becomes, with_fields, with_list_change, with_lists, with_values};
 ghost use Rattle.nomos_slots.specs.Numbers.{put_at};
 ghost use Rattle.nomos_state.specs.Objects.{kept_at};
@@ -10,6 +15,7 @@ use crate::inside::Inside;
 use crate::kept::{Kept, KeptLists, KeptProcess};
 use crate::list_rows::{change_row, own_row};
 use crate::looking::process_at;
+use crate::sought::seen_process;
 use crate::span::widened;
 use crate::value_rows::{bind_if, bind_in};
 use crate::weights::kept_lists;
@@ -80,50 +86,61 @@ fn keep_lists(
 }
 
 impl Inside {
-    /// The process of this number has these plain fields, but for the number, which it has already. It takes no room.
+    /// The process of this number has these plain fields, but for the number, which it has already. It gives those that
+    /// it had, and changes nothing where there is no such process. It takes no room.
     #[inline(always)]
-    pub fn set_fields(&mut self, fields: SeenProcess)
+    pub fn set_fields(&mut self, fields: SeenProcess) -> Option<SeenProcess>
+        ensures before { result ≡ option_map seen_process (process_at self.old.state fields.pid) }
         ensures state { Becomes self.old.state fields.pid (with_fields fields) self.new.state }
+        ensures none { process_at self.old.state fields.pid ≡ None → self.new.state ≡ self.old.state }
         ensures room { self.new.room ≡ self.old.room }
         ensures marked { self.new.marked ≡ self.old.marked }
     {
-        let Some((place, before)) = process_at(&self.contents, fields.pid) else {
-            return;
-        };
+        let (place, before) = process_at(&self.contents, fields.pid)?;
         let next = KeptProcess::of(fields, before.span, before.ascends, before.lists());
         self.contents.objects.put(place, Some(Kept::Process(next)));
+        Some(seen_process(fields.pid, &before))
     }
 
-    /// A channel of the process is bound to a variable.
-    pub fn bind_channel(&mut self, pid: u32, v: VarId, name: u32)
+    /// A channel of the process is bound to a variable. It gives what was bound to the variable, and changes nothing
+    /// where there is no such process.
+    pub fn bind_channel(&mut self, pid: u32, v: VarId, name: u32) -> Option<Option<u32>>
         requires { 0 < self.old.room }
+        ensures before { result ≡ option_map (λ p. bound_to v.0 p.channels) (process_at self.old.state pid) }
+        ensures order { (p : Process) → process_at self.old.state pid ≡ Some p → IsAscending p.channels }
         ensures state { Becomes self.old.state pid (with_channel v name) self.new.state }
+        ensures none { process_at self.old.state pid ≡ None → self.new.state ≡ self.old.state }
         ensures room { self.old.room ≤ self.new.room + 1 }
         ensures marked { self.new.marked ≡ self.old.marked }
     {
-        let Some((place, before)) = process_at(&self.contents, pid) else {
-            return;
-        };
+        let (place, before) = process_at(&self.contents, pid)?;
+        let bound = self.contents.channels.get(pid, v.0);
         self.contents.channels.bind(pid, v.0, name);
         let span = Some(widened(before.span, v.0));
         let next = KeptProcess { span, ..before };
         self.contents.objects.put(place, Some(Kept::Process(next)));
         self.room -= 1;
+        Some(bound)
     }
 
-    /// A variable of the process has no channel any longer. It takes no room.
-    pub fn unbind_channel(&mut self, pid: u32, v: VarId)
+    /// A variable of the process has no channel any longer. It gives what was bound to the variable, and changes
+    /// nothing where there is no such process. It takes no room.
+    pub fn unbind_channel(&mut self, pid: u32, v: VarId) -> Option<Option<u32>>
+        ensures before { result ≡ option_map (λ p. bound_to v.0 p.channels) (process_at self.old.state pid) }
         ensures state { Becomes self.old.state pid (without_channel v) self.new.state }
+        ensures none { process_at self.old.state pid ≡ None → self.new.state ≡ self.old.state }
         ensures room { self.new.room ≡ self.old.room }
         ensures marked { self.new.marked ≡ self.old.marked }
     {
         let Some(_) = process_at(&self.contents, pid) else {
-            return;
+            return None;
         };
+        let bound = self.contents.channels.get(pid, v.0);
         self.contents.channels.unbind(pid, v.0);
+        Some(bound)
     }
 
-    /// A variable of the process is bound to a value.
+    /// A variable of the process is bound to a value. Nothing changes where there is no such process.
     pub fn bind_value(
         &mut self,
         alloc: Global,
@@ -134,6 +151,7 @@ impl Inside {
         requires { 0 < self.old.room }
         ensures ok { OnOk result (Becomes self.old.state pid (with_value v x) self.new.state) }
         ensures err { OnErr result (self.new.state ≡ self.old.state) }
+        ensures none { process_at self.old.state pid ≡ None → self.new.state ≡ self.old.state }
         ensures room { self.old.room ≤ self.new.room + 1 }
         ensures marked { self.new.marked ≡ self.old.marked }
     {
@@ -151,10 +169,11 @@ impl Inside {
         Ok(())
     }
 
-    /// The process has these values.
+    /// The process has these values. Nothing changes where there is no such process.
     pub fn put_values(&mut self, pid: u32, values: Vec<(VarId, Value)>)
         requires { 0 < self.old.room }
         ensures state { Becomes self.old.state pid (with_values values.items) self.new.state }
+        ensures none { process_at self.old.state pid ≡ None → self.new.state ≡ self.old.state }
         ensures room { self.old.room ≤ self.new.room + 1 }
         ensures marked { self.new.marked ≡ self.old.marked }
     {
@@ -168,6 +187,7 @@ impl Inside {
     }
 
     /// One list of the process is used up, one is bound, and a value is, each if it is to be. It takes the room of two.
+    /// Nothing changes where there is no such process.
     pub fn change_lists(
         &mut self,
         alloc: Global,
@@ -177,6 +197,7 @@ impl Inside {
         requires { 2 ≤ self.old.room }
         ensures ok { OnOk result (Becomes self.old.state pid (with_list_change change) self.new.state) }
         ensures err { OnErr result (self.new.state ≡ self.old.state) }
+        ensures none { process_at self.old.state pid ≡ None → self.new.state ≡ self.old.state }
         ensures room { self.old.room ≤ self.new.room + 2 }
         ensures marked { self.new.marked ≡ self.old.marked }
     {
@@ -208,10 +229,11 @@ impl Inside {
         Ok(())
     }
 
-    /// The process has these lists.
+    /// The process has these lists. Nothing changes where there is no such process.
     pub fn put_lists(&mut self, pid: u32, lists: Vec<(VarId, PotentialList)>)
         requires { 0 < self.old.room }
         ensures state { Becomes self.old.state pid (with_lists lists.items) self.new.state }
+        ensures none { process_at self.old.state pid ≡ None → self.new.state ≡ self.old.state }
         ensures room { self.old.room ≤ self.new.room + 1 }
         ensures marked { self.new.marked ≡ self.old.marked }
     {

@@ -8,6 +8,7 @@ ghost use Rattle.nomos_state.specs.Objects.{payload_of};
 use crate::binding::{bind_pairs, reserve_names};
 use crate::inside::Inside;
 use crate::kept::{Kept, KeptMessage, KeptProcess};
+use crate::purse::Purse;
 use crate::span::span_of;
 use crate::weights::kept_lists;
 use nomos_changes::newborn::Newborn;
@@ -58,7 +59,7 @@ impl Inside {
             from: message.from,
             next: message.next,
             brings,
-            purse: message.purse,
+            purse: Purse::of(message.purse),
         };
         self.contents
             .objects

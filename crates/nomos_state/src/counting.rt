@@ -1,5 +1,6 @@
 //! What an object of an indexed state does with names is counted in, or counted out.
-ghost use Rattle.std.specs.Prelude.{◌≡◌, None, Some};
+ghost use Rattle.std.specs.Prelude.{◌≡◌, ℕ, IsSome, None, Some};
+ghost use Rattle.nomos_ir.specs.Bindings.{bound_to};
 ghost use Rattle.nomos_deeds.specs.Acts.{message_at};
 ghost use Rattle.nomos_state.specs.Mentions.{names_in};
 ghost use Rattle.nomos_machine.specs.Objects.{object_at};
@@ -11,21 +12,26 @@ ghost use Rattle.nomos_slots.specs.Numbers.{IsAscending};
 ghost use Rattle.nomos_state.specs.Moving.{Moves};
 ghost use Rattle.nomos_state.specs.Tallying.{channels_used, names_of, nothing};
 ghost use Rattle.nomos_state.specs.Counting.{fields_seen, names_used};
+ghost use Rattle.nomos_state.specs.Spanning.{HasVariable};
 
 use crate::inside::Inside;
 use crate::mentions::MessageNames;
+use crate::span::Span;
 use crate::tallies::Tallies;
 use crate::tally::{Hint, NameUse};
 use nomos_deeds::sight::{SeenProcess, Sight};
 use nomos_ir::ids::VarId;
 
-/// The channels of a process are counted in.
-pub(crate) fn count_channels(inside: &Inside, tallies: &mut Tallies, pid: u32)
-    requires { IsAscending tallies.old.names.now }
-    ensures { (p : Process) → process_at inside.now.state pid ≡ Some p
+/// The channels of a process, which stand in this span, are counted in.
+pub(crate) fn count_channels(inside: &Inside, tallies: &mut Tallies, pid: u32, within: Option<Span>)
+    requires order { IsAscending tallies.old.names.now }
+    requires spans { (p : Process) → process_at inside.now.state pid ≡ Some p → (v : ℕ) → IsSome (bound_to v p.channels)
+        → HasVariable within v }
+    ensures moves { (p : Process) → process_at inside.now.state pid ≡ Some p
         → Moves tallies.old tallies.new nothing (channels_used p) }
+    ensures none { within ≡ None → tallies.new ≡ tallies.old }
 {
-    let Some(span) = inside.span(pid) else {
+    let Some(span) = within else {
         return;
     };
     let mut variable = span.low;
@@ -43,13 +49,21 @@ pub(crate) fn count_channels(inside: &Inside, tallies: &mut Tallies, pid: u32)
     }
 }
 
-/// The channels of a process are counted out.
-pub(crate) fn uncount_channels(inside: &Inside, tallies: &mut Tallies, pid: u32)
-    requires { IsAscending tallies.old.names.now }
-    ensures { (p : Process) → process_at inside.now.state pid ≡ Some p
+/// The channels of a process, which stand in this span, are counted out.
+pub(crate) fn uncount_channels(
+    inside: &Inside,
+    tallies: &mut Tallies,
+    pid: u32,
+    within: Option<Span>,
+)
+    requires order { IsAscending tallies.old.names.now }
+    requires spans { (p : Process) → process_at inside.now.state pid ≡ Some p → (v : ℕ) → IsSome (bound_to v p.channels)
+        → HasVariable within v }
+    ensures moves { (p : Process) → process_at inside.now.state pid ≡ Some p
         → Moves tallies.old tallies.new (channels_used p) nothing }
+    ensures none { within ≡ None → tallies.new ≡ tallies.old }
 {
-    let Some(span) = inside.span(pid) else {
+    let Some(span) = within else {
         return;
     };
     let mut variable = span.low;
@@ -72,10 +86,7 @@ pub(crate) fn count_fields(tallies: &mut Tallies, fields: &SeenProcess)
     requires { IsAscending tallies.old.names.now }
     ensures { Moves tallies.old tallies.new nothing (fields_seen fields.now) }
 {
-    let by = Hint {
-        object: fields.pid,
-        variable: 0,
-    };
+    let by = Hint::of(fields.pid);
     tallies.exchange(NameUse::Provides, None, Some(fields.offers), by);
     tallies.exchange(NameUse::Bases, None, fields.base, by);
 }
@@ -85,10 +96,7 @@ pub(crate) fn uncount_fields(tallies: &mut Tallies, fields: &SeenProcess)
     requires { IsAscending tallies.old.names.now }
     ensures { Moves tallies.old tallies.new (fields_seen fields.now) nothing }
 {
-    let by = Hint {
-        object: fields.pid,
-        variable: 0,
-    };
+    let by = Hint::of(fields.pid);
     tallies.exchange(NameUse::Provides, Some(fields.offers), None, by);
     tallies.exchange(NameUse::Bases, fields.base, None, by);
 }
@@ -98,10 +106,7 @@ pub(crate) fn count_message(tallies: &mut Tallies, names: MessageNames, number: 
     requires { IsAscending tallies.old.names.now }
     ensures { Moves tallies.old tallies.new nothing (names_used names) }
 {
-    let by = Hint {
-        object: number,
-        variable: 0,
-    };
+    let by = Hint::of(number);
     tallies.exchange(NameUse::Provides, None, names.provides, by);
     tallies.exchange(NameUse::Uses, None, names.end, by);
     tallies.exchange(NameUse::Uses, None, names.brings, by);
@@ -112,10 +117,7 @@ pub(crate) fn uncount_message(tallies: &mut Tallies, names: MessageNames, number
     requires { IsAscending tallies.old.names.now }
     ensures { Moves tallies.old tallies.new (names_used names) nothing }
 {
-    let by = Hint {
-        object: number,
-        variable: 0,
-    };
+    let by = Hint::of(number);
     tallies.exchange(NameUse::Provides, names.provides, None, by);
     tallies.exchange(NameUse::Uses, names.end, None, by);
     tallies.exchange(NameUse::Uses, names.brings, None, by);
@@ -130,7 +132,7 @@ pub(crate) fn uncount(inside: &Inside, tallies: &mut Tallies, number: u32)
         → Moves tallies.old tallies.new nothing nothing }
 {
     if let Some(fields) = inside.process(number) {
-        uncount_channels(inside, tallies, number);
+        uncount_channels(inside, tallies, number, inside.span(number));
         uncount_fields(tallies, &fields);
         return;
     }

@@ -30,9 +30,9 @@ pub enum Holder {
 // Who was the last that came to do it.
 fn hint_of(tally: &Tally, doing: NameUse) -> Hint {
     match doing {
-        NameUse::Provides => tally.provider,
+        NameUse::Provides => Hint::of(tally.provider),
         NameUse::Uses => tally.user,
-        NameUse::Bases => tally.holder,
+        NameUse::Bases => Hint::of(tally.holder),
     }
 }
 

@@ -66,7 +66,7 @@ impl Sight for Inside {
         match process_at(&self.contents, pid) {
             Some((place, p)) => {
                 let lists = lists_left(self.contents.lists.row(place), p.gone);
-                affords(lists, p.potential, p.purse, gas)
+                affords(lists, p.potential, p.purse.dths(), gas)
             }
             None => false,
         }

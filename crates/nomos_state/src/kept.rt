@@ -3,12 +3,14 @@ ghost use Rattle.std.specs.Prelude.{◌≡◌, ℕ, Some};
 ghost use Rattle.nomos_state.specs.Objects.{kept_of};
 ghost use Rattle.nomos_state.specs.Spanning.{HasVariable, Spans};
 
+use crate::purse::Purse;
 use crate::span::Span;
 use nomos_deeds::sight::{SeenPayload, SeenProcess};
 use nomos_ir::ids::CodeId;
 use nomos_ir::mode::Mode;
 
-/// A process without its number, its values, its lists and its channels. Its purse counts Dths.
+/// A process without its number, its values, its lists and its channels. No part of it stands at more than multiples of
+/// four bytes, so that it takes few.
 #[derive(Clone, Copy, Debug)]
 pub(crate) struct KeptProcess {
     pub(crate) mode: Mode,
@@ -24,7 +26,7 @@ pub(crate) struct KeptProcess {
     pub(crate) potential: Option<u32>,
     /// Among which variables its channels may stand.
     pub(crate) span: Option<Span>,
-    pub(crate) purse: u128,
+    pub(crate) purse: Purse,
 }
 
 /// What is kept of a row of lists beside it, as a process keeps it.
@@ -53,7 +55,7 @@ impl KeptProcess {
             base: fields.base,
             payer: fields.payer,
             span,
-            purse: fields.purse,
+            purse: Purse::of(fields.purse),
             gone: lists.gone,
             potential: lists.potential,
         }
@@ -70,14 +72,14 @@ impl KeptProcess {
     }
 }
 
-/// A message without its number and the value that it may bring. Its purse counts Dths.
+/// A message without its number and the value that it may bring.
 #[derive(Clone, Copy, Debug)]
 pub(crate) struct KeptMessage {
     pub(crate) to_client: bool,
     pub(crate) from: u32,
     pub(crate) next: Option<u32>,
     pub(crate) brings: SeenPayload,
-    pub(crate) purse: u128,
+    pub(crate) purse: Purse,
 }
 
 /// A process or a message.

@@ -84,7 +84,7 @@ fn copy_process(
         channels: Items::of_vec(channels),
         offers: p.offers,
         base: p.base,
-        purse: p.purse,
+        purse: p.purse.dths(),
         payer: p.payer,
     })
 }
@@ -124,7 +124,7 @@ fn copy_message(
         from: m.from,
         next: m.next,
         payload: copy_payload(contents, place, m.brings)?,
-        purse: m.purse,
+        purse: m.purse.dths(),
     })
 }
 

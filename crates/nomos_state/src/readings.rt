@@ -55,7 +55,7 @@ pub(crate) fn message_purse(contents: &Columns, number: u32) -> u128
     ensures { (m : Sent) → message_at (state_of (held_now contents.now)).objects number ≡ Some m → result ≡ m.purse }
 {
     match message_at(contents, number) {
-        Some((_, m)) => m.purse,
+        Some((_, m)) => m.purse.dths(),
         None => 0,
     }
 }
@@ -99,7 +99,7 @@ pub(crate) fn view(contents: &Columns, pid: u32) -> Option<View>
         code: p.code,
         offers: p.offers,
         base: p.base,
-        purse: p.purse,
+        purse: p.purse.dths(),
     })
 }
 

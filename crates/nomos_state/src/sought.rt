@@ -171,7 +171,7 @@ pub(crate) fn seen_process(pid: u32, p: &KeptProcess) -> SeenProcess
         code: p.code,
         offers: p.offers,
         base: p.base,
-        purse: p.purse,
+        purse: p.purse.dths(),
         payer: p.payer,
     }
 }

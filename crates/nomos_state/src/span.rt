@@ -6,9 +6,10 @@ ghost use Rattle.nomos_machine.specs.State.{process_at};
 ghost use Rattle.nomos_machine.specs.declared.object.Process.{Process};
 ghost use Rattle.nomos_slots.specs.Cells.{name_in};
 ghost use Rattle.nomos_slots.specs.Sweeps.{instead_of};
-ghost use Rattle.nomos_state.specs.Spanning.{HasVariable, row_bit};
+ghost use Rattle.nomos_state.specs.Spanning.{HasVariable, row_bit, rows_of};
 
 use crate::inside::Inside;
+use crate::long::WORDS;
 use crate::looking::process_at;
 use nomos_ir::ids::VarId;
 use nomos_slots::bits::{has_bit, with_bit};
@@ -26,8 +27,30 @@ const BITS: u32 = 64;
 pub struct Span {
     pub low: u32,
     pub high: u32,
-    /// The bits of the rows in which they may stand.
-    pub rows: u64,
+    /// The bits of the rows in which they may stand: the higher 32, and the lower ones.
+    pub high_rows: u32,
+    pub low_rows: u32,
+}
+
+// The bits of the rows of a span.
+fn rows(span: Span) -> u64
+    ensures { result ≡ rows_of span }
+{
+    u64::from(span.high_rows) * WORDS + u64::from(span.low_rows)
+}
+
+// A span with these bits of rows.
+fn spanning(low: u32, high: u32, rows: u64) -> Span
+    ensures low { result.low ≡ low }
+    ensures high { result.high ≡ high }
+    ensures rows { rows_of result ≡ rows }
+{
+    Span {
+        low,
+        high,
+        high_rows: (rows / WORDS) as u32,
+        low_rows: (rows % WORDS) as u32,
+    }
 }
 
 // The bit of the row of a variable.
@@ -56,16 +79,12 @@ pub(crate) fn widened(span: Option<Span>, variable: u32) -> Span
 {
     let bit = row_bit(variable);
     match span {
-        Some(Span { low, high, rows }) => Span {
-            low: low.min(variable),
-            high: high.max(variable),
-            rows: with_bit(rows, bit, true),
-        },
-        None => Span {
-            low: variable,
-            high: variable,
-            rows: with_bit(0, bit, true),
-        },
+        Some(span) => spanning(
+            span.low.min(variable),
+            span.high.max(variable),
+            with_bit(rows(span), bit, true),
+        ),
+        None => spanning(variable, variable, with_bit(0, bit, true)),
     }
 }
 
@@ -80,7 +99,7 @@ pub(crate) fn next_in(span: Span, channels: &Channels, process: u32, from: u32) 
     let mut variable = from;
     while variable < span.high {
         let end = row_end(variable, span.high);
-        if has_bit(span.rows, row_bit(variable)) {
+        if has_bit(rows(span), row_bit(variable)) {
             let next = channels.next_named(process, variable, end);
             if next < end {
                 return next;
@@ -152,8 +171,9 @@ impl Inside {
     /// Among which variables the channels of a process may stand; nothing where it has none, or where no process has
     /// the number.
     pub fn span(&self, pid: u32) -> Option<Span>
-        ensures { (p : Process) → process_at self.now.state pid ≡ Some p → (v : ℕ) → IsSome (bound_to v p.channels)
-            → HasVariable result v }
+        ensures spans { (p : Process) → process_at self.now.state pid ≡ Some p
+            → (v : ℕ) → IsSome (bound_to v p.channels) → HasVariable result v }
+        ensures none { process_at self.now.state pid ≡ None → result ≡ None }
     {
         let (_, p) = process_at(&self.contents, pid)?;
         p.span

@@ -13,6 +13,8 @@ pub struct Tallied {
     pub(crate) was_exact: bool,
     /// Whether there were suspects there, or some were lost.
     pub(crate) was_lost: bool,
+    /// Whether an object or a name left since gaps were closed last; no clause rests on it.
+    pub(crate) has_left: bool,
 }
 
 impl Model for Tallied {

@@ -6,7 +6,7 @@ ghost use Rattle.nomos_changes.specs.SmallChanges.{Becomes, with_channels, with_
 use crate::counting::{count_channels, uncount_channels};
 use crate::tallied::Tallied;
 use crate::tally::{Hint, NameUse};
-use nomos_deeds::sight::{SeenProcess, Sight};
+use nomos_deeds::sight::SeenProcess;
 use nomos_ir::ids::VarId;
 use std::alloc::{AllocError, Global};
 
@@ -18,11 +18,9 @@ impl Tallied {
         ensures room { self.old.room ≤ self.new.room + 1 }
         ensures marked { self.new.marked ≡ self.old.marked }
     {
-        let Some(_) = self.inside.process(pid) else {
+        let Some(before) = self.inside.bind_channel(pid, v, name) else {
             return;
         };
-        let before = self.inside.bound(pid, v);
-        self.inside.bind_channel(pid, v, name);
         let by = Hint {
             object: pid,
             variable: v.0,
@@ -36,11 +34,9 @@ impl Tallied {
         ensures room { self.new.room ≡ self.old.room }
         ensures marked { self.new.marked ≡ self.old.marked }
     {
-        let Some(_) = self.inside.process(pid) else {
+        let Some(before) = self.inside.unbind_channel(pid, v) else {
             return;
         };
-        let before = self.inside.bound(pid, v);
-        self.inside.unbind_channel(pid, v);
         let by = Hint {
             object: pid,
             variable: v.0,
@@ -60,13 +56,18 @@ impl Tallied {
         ensures room { self.new.room ≡ self.old.room }
         ensures marked { self.new.marked ≡ self.old.marked }
     {
-        let Some(_) = self.inside.process(pid) else {
-            return Ok(());
-        };
-        uncount_channels(&self.inside, &mut self.tallies, pid);
-        let outcome = self.inside.replace_channels(alloc, pid, channels);
-        count_channels(&self.inside, &mut self.tallies, pid);
-        outcome
+        let before = self.inside.span(pid);
+        uncount_channels(&self.inside, &mut self.tallies, pid, before);
+        match self.inside.replace_channels(alloc, pid, channels) {
+            Ok(after) => {
+                count_channels(&self.inside, &mut self.tallies, pid, after);
+                Ok(())
+            }
+            Err(fault) => {
+                count_channels(&self.inside, &mut self.tallies, pid, before);
+                Err(fault)
+            }
+        }
     }
 
     /// The process of this number has these plain fields, but for the number, which it has already. It takes no room.
@@ -76,14 +77,10 @@ impl Tallied {
         ensures room { self.new.room ≡ self.old.room }
         ensures marked { self.new.marked ≡ self.old.marked }
     {
-        let Some(before) = self.inside.process(fields.pid) else {
+        let Some(before) = self.inside.set_fields(fields) else {
             return;
         };
-        self.inside.set_fields(fields);
-        let by = Hint {
-            object: fields.pid,
-            variable: 0,
-        };
+        let by = Hint::of(fields.pid);
         self.tallies.exchange(
             NameUse::Provides,
             Some(before.offers),

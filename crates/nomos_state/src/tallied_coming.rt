@@ -93,7 +93,8 @@ impl Tallied {
         let fields = born.fields;
         let pid = self.inside.free_number();
         self.inside.come_process(alloc, born)?;
-        count_channels(&self.inside, &mut self.tallies, pid);
+        let span = self.inside.span(pid);
+        count_channels(&self.inside, &mut self.tallies, pid, span);
         count_fields(&mut self.tallies, &fields);
         Ok(())
     }

@@ -19,6 +19,7 @@ impl Tallied {
             tallies: Tallies::new(alloc),
             was_exact: true,
             was_lost: true,
+            has_left: true,
         }
     }
 
@@ -43,6 +44,7 @@ impl Tallied {
             tallies,
             was_exact: true,
             was_lost: true,
+            has_left: true,
         })
     }
 }

@@ -15,5 +15,6 @@ impl Tallied {
     {
         uncount(&self.inside, &mut self.tallies, number);
         self.inside.leave(number);
+        self.has_left = true;
     }
 }

@@ -4,8 +4,13 @@ ghost use Rattle.std.specs.Prelude.{◌≡◌, ◌≤◌, IsOk, IsSome, None, On
 use crate::tallied::Tallied;
 use std::alloc::AllocError;
 
+/// For how many small changes room is made at least, so that most acts find it there.
+const LEAST_ROOM: usize = 64;
+
 impl Tallied {
-    /// Makes room for so many small changes. Where there is room already, it cannot fail.
+    /// Makes room for so many small changes, and for more where they are few. Where there is room already, it cannot
+    /// fail.
+    #[inline(always)]
     pub(crate) fn make_room(&mut self, changes: usize) -> Result<(), AllocError>
         ensures state { self.new.state ≡ self.old.state }
         ensures ok { OnOk result (changes ≤ self.new.room) }
@@ -16,6 +21,7 @@ impl Tallied {
         if self.inside.has_room(changes) {
             return Ok(());
         }
+        let changes = changes.max(LEAST_ROOM);
         self.tallies.reserve(changes)?;
         self.inside.make_room(changes)
     }

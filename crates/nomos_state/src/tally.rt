@@ -21,6 +21,16 @@ pub struct Hint {
     pub variable: u32,
 }
 
+impl Hint {
+    /// An object, without a variable.
+    pub fn of(object: u32) -> Hint {
+        Hint {
+            object,
+            variable: 0,
+        }
+    }
+}
+
 /// How often objects do each with a name, and who was the last that came to provide it, to use it and to have it as
 /// base. Nothing is promised of who that was.
 #[derive(Clone, Copy, Debug)]
@@ -28,9 +38,9 @@ pub struct Tally {
     pub provided: u32,
     pub used: u32,
     pub based: u32,
-    pub provider: Hint,
+    pub provider: u32,
     pub user: Hint,
-    pub holder: Hint,
+    pub holder: u32,
 }
 
 impl Tally {
@@ -38,17 +48,13 @@ impl Tally {
     pub fn none() -> Tally
         ensures { (d : Does) → counted d result ≡ 0 }
     {
-        let nobody = Hint {
-            object: 0,
-            variable: 0,
-        };
         Tally {
             provided: 0,
             used: 0,
             based: 0,
-            provider: nobody,
-            user: nobody,
-            holder: nobody,
+            provider: 0,
+            user: Hint::of(0),
+            holder: 0,
         }
     }
 
@@ -79,7 +85,7 @@ impl Tally {
                 let provided = self.provided.checked_add(1)?;
                 Some(Tally {
                     provided,
-                    provider: by,
+                    provider: by.object,
                     ..self
                 })
             }
@@ -95,7 +101,7 @@ impl Tally {
                 let based = self.based.checked_add(1)?;
                 Some(Tally {
                     based,
-                    holder: by,
+                    holder: by.object,
                     ..self
                 })
             }

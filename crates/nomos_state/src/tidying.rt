@@ -54,6 +54,18 @@ impl Tallied {
         self.tallies.close_gaps();
     }
 
+    // The same, where something left since gaps were closed last.
+    fn close_new_gaps(&mut self)
+        ensures state { self.new.state ≡ self.old.state }
+        ensures room { self.new.room ≡ self.old.room }
+        ensures marked { self.new.marked ≡ self.old.marked }
+    {
+        if self.has_left {
+            self.has_left = false;
+            self.close_gaps();
+        }
+    }
+
     /// Names that no object mentions have no type any more; gaps are closed then, where they are many. It takes no
     /// room. Only suspects are asked, where they are known.
     #[inline(always)]
@@ -63,11 +75,13 @@ impl Tallied {
         ensures marked { self.new.marked ≡ self.old.marked }
     {
         if self.tallies.exact && !self.tallies.suspects.is_lost() {
+            self.has_left |= !self.tallies.suspects.is_empty();
             tidy_suspects(&mut self.inside, &mut self.tallies);
         } else {
+            self.has_left = true;
             self.inside.tidy();
             self.tallies.suspects.clear(false);
         }
-        self.close_gaps();
+        self.close_new_gaps();
     }
 }

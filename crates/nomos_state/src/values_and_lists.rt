@@ -5,7 +5,6 @@ ghost use Rattle.nomos_changes.specs.SmallChanges.{Becomes, with_list_change, wi
 
 use crate::tallied::Tallied;
 use nomos_changes::list_change::ListChange;
-use nomos_deeds::sight::Sight;
 use nomos_ir::ids::VarId;
 use nomos_ir::value::Value;
 use nomos_machine::object::PotentialList;
@@ -26,9 +25,6 @@ impl Tallied {
         ensures room { self.old.room ≤ self.new.room + 1 }
         ensures marked { self.new.marked ≡ self.old.marked }
     {
-        let Some(_) = self.inside.process(pid) else {
-            return Ok(());
-        };
         self.inside.bind_value(alloc, pid, v, x)?;
         Ok(())
     }
@@ -40,9 +36,6 @@ impl Tallied {
         ensures room { self.old.room ≤ self.new.room + 1 }
         ensures marked { self.new.marked ≡ self.old.marked }
     {
-        let Some(_) = self.inside.process(pid) else {
-            return;
-        };
         self.inside.put_values(pid, values);
     }
 
@@ -59,9 +52,6 @@ impl Tallied {
         ensures room { self.old.room ≤ self.new.room + 2 }
         ensures marked { self.new.marked ≡ self.old.marked }
     {
-        let Some(_) = self.inside.process(pid) else {
-            return Ok(());
-        };
         self.inside.change_lists(alloc, pid, change)?;
         Ok(())
     }
@@ -73,9 +63,6 @@ impl Tallied {
         ensures room { self.old.room ≤ self.new.room + 1 }
         ensures marked { self.new.marked ≡ self.old.marked }
     {
-        let Some(_) = self.inside.process(pid) else {
-            return;
-        };
         self.inside.put_lists(pid, lists);
     }
 }

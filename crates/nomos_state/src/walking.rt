@@ -106,8 +106,7 @@ pub(crate) fn next_ready<S: Sight>(
     ensures { MatchOption result (NoneReady accepted.now (S.state sight.now) after)
         (IsNextReady accepted.now (S.state sight.now) after) }
 {
-    // Where the program is read it is known to be accepted.
-    let _program = accepted.program();
+    accepted.know();
     number_in(contents, first_ready(sight, accepted, contents, after))
 }
 
@@ -116,8 +115,8 @@ fn purse_at(contents: &Columns, place: usize) -> u128
     ensures { result ≡ purse_in (standing_at (held_now contents.now) place) }
 {
     match kept_at(contents, place) {
-        Some((_, Kept::Process(p))) => p.purse,
-        Some((_, Kept::Message(m))) => m.purse,
+        Some((_, Kept::Process(p))) => p.purse.dths(),
+        Some((_, Kept::Message(m))) => m.purse.dths(),
         None => 0,
     }
 }
@@ -181,7 +180,6 @@ pub(crate) fn next_owned(accepted: &Accepted, contents: &Columns, after: u32) ->
     requires { IsHolding (held_now contents.now) }
     ensures { FindsNext (IsLinearName accepted.now.program (state_of (held_now contents.now)).types) after result }
 {
-    // Where the program is read it is known to be accepted.
-    let _program = accepted.program();
+    accepted.know();
     name_in(contents, first_owned(accepted, contents, after))
 }

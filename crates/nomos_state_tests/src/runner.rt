@@ -87,7 +87,7 @@ impl<M: Machine> FormRunner<M> {
         requires marked { M.marked machine ≡ None }
         ensures { result.accepted ≡ accepted }
     {
-        let _program = accepted.program();
+        accepted.know();
         FormRunner {
             accepted,
             machine,

@@ -2,6 +2,7 @@ pub mod PieceLemmas
 pub mod SpellingLemmas
 pub mod ScanLemmas
 pub mod WordLemmas
+pub mod FirstByteLemmas
 pub mod NameLaws
 pub mod Examples
 pub mod BeginningLemmas

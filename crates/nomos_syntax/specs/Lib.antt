@@ -8,3 +8,4 @@ pub mod Found
 pub mod Reading
 pub mod Longest
 pub mod Apart
+pub mod mirror

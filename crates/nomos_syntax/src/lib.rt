@@ -3,6 +3,7 @@
 
 mod bytes;
 mod pieces;
+mod reserved_words;
 pub mod scan;
 pub mod symbol;
 pub mod token;

@@ -7,10 +7,10 @@ ghost use Rattle.nomos_syntax.specs.Spans.{lexeme_of};
 ghost use Rattle.nomos_syntax.specs.Found.{Finds, first_piece};
 
 use crate::bytes::{is_blank, is_comment_byte};
+use crate::reserved_words::word_of;
 use crate::symbol::Symbol;
 use crate::token::TokenKind;
 use nomos_ir::letters::{digits_length, is_digit, is_letter, is_word_byte, word_length};
-use nomos_ir::word::Word;
 
 /// A piece of a text: a token of this kind, or a blank or a comment, with the number of its bytes after
 /// the first one.
@@ -126,7 +126,7 @@ fn symbol_piece(first: u8, after: &[u8]) -> Piece
 fn word_kind(text: &[u8]) -> TokenKind
     ensures { lexeme_of result text.now ≡ word_lexeme (reserved_word text.now) text.now }
 {
-    match Word::of_text(text) {
+    match word_of(text) {
         Some(word) => TokenKind::Reserved(word),
         None => TokenKind::Name,
     }

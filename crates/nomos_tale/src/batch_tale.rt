@@ -66,8 +66,7 @@ pub(crate) fn fire_all<M: Undo>(
     ensures end { IfOk result (IsAllowed accepted.now watched.new.world.state (length watched.new.world.firings)
         limit) }
 {
-    // Where the program is read it is known to be accepted.
-    let _program = accepted.program();
+    accepted.know();
     'firings: for _made in 0..limit {
         if let Some(end) = step(alloc, accepted, teller, watched)? {
             return Ok(end);

@@ -54,8 +54,7 @@ pub(crate) fn fire_told<M: Undo>(
     ensures stands { WorldStandsFor accepted.now watched.new.world }
     ensures watched { IsWatched accepted.now watched.new.world.state watched.new.awake }
 {
-    // Where the program is read it is known to be accepted.
-    let _program = accepted.program();
+    accepted.know();
     let Some(actor) = actor_of(accepted, watched.world.state(), pid) else {
         unreachable!()
     };

@@ -195,8 +195,7 @@ fn fires_where_ready<M: Undo>(accepted: &Accepted, world: &World<M>, pid: u32) -
     requires stands { WorldStandsFor accepted.now world.now }
     ensures { IfSome result (IsChoice accepted.now world.now) }
 {
-    // Where the program is read it is known to be accepted.
-    let _program = accepted.program();
+    accepted.know();
     if world.state().ready(accepted, pid) {
         Some(NextStep::Fires(pid))
     } else {

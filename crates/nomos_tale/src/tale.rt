@@ -80,8 +80,7 @@ fn tell_item<M: Undo + Drop>(
     requires made { walk.old.made ≤ max_firings }
     ensures { IfOk result (λ passed. IsTold walk.old ledger item.now passed walk.new) }
 {
-    // Where the program is read it is known to be accepted.
-    let _program = walk.accepted().program();
+    walk.accepted().know();
     let first = ledger.state().next_object();
     match walk.start(alloc, ledger, item)? {
         StartedItem::Passed(passed) => {
@@ -106,8 +105,7 @@ fn tell_items<M: Undo + Drop>(
 ) -> Result<(), Untold>
     requires { IsLimit limit }
 {
-    // Where the program is read it is known to be accepted.
-    let _program = accepted.program();
+    accepted.know();
     let wanted = WantedTexts {
         report: false,
         text: false,

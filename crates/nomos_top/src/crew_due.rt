@@ -17,6 +17,7 @@ use crate::unaccepted::unaccepted_due;
 use nomos_answers::due::Due;
 use nomos_answers::runs;
 use nomos_base::Source;
+use nomos_boxed::boxed::Boxed;
 use nomos_legal::journal::Journal;
 use nomos_run::orders::{Orders, Runner};
 use nomos_state::indexed::IndexedState;
@@ -27,7 +28,7 @@ use std::sync::Wait;
 use std::thread::Threads;
 
 /// What is due for a run by these orders, of which a crew may be several workers.
-pub(crate) fn run_due_by_crew<S: Source, G: Gate, R: Threads + Wait + Sync>(
+pub(crate) fn script_due_by_crew<S: Source, G: Gate, R: Threads + Wait + Sync>(
     stage: &CallStage<'_, G, R>,
     orders: Orders,
     contract: &mut S,
@@ -50,13 +51,13 @@ pub(crate) fn run_due_by_crew<S: Source, G: Gate, R: Threads + Wait + Sync>(
     ensures unread { given_of result ≡ None → script.new ≡ script.old }
 {
     match judge(stage.alloc, contract) {
-        Ok(accepted) => accepted_run_due_by_crew(stage, orders, accepted, script),
+        Ok(accepted) => accepted_script_due_by_crew(stage, orders, accepted, script),
         Err(unaccepted) => unaccepted_due(stage.alloc, orders.limit, unaccepted),
     }
 }
 
 // What is due for a run, over the indexed form of a state.
-fn indexed_run_due_by_crew<S: Source, G: Gate, R: Threads + Wait + Sync>(
+fn boxed_script_due_by_crew<S: Source, G: Gate, R: Threads + Wait + Sync>(
     runner: &Runner<'_, G, R>,
     alloc: Global,
     accepted: &Accepted,
@@ -69,11 +70,11 @@ fn indexed_run_due_by_crew<S: Source, G: Gate, R: Threads + Wait + Sync>(
     ensures err { IfErr result (IsRunPartFor accepted.now runner.now.orders
         (source_state (S.left script.old) (S.faults script.old) (S.faults script.new))) }
 {
-    runs::run_due_by_crew::<IndexedState, S, G, R>(runner, alloc, accepted, script)
+    runs::run_due_by_crew::<Boxed<IndexedState>, S, G, R>(runner, alloc, accepted, script)
 }
 
 // What is due for a run on an accepted contract.
-fn accepted_run_due_by_crew<S: Source, G: Gate, R: Threads + Wait + Sync>(
+fn accepted_script_due_by_crew<S: Source, G: Gate, R: Threads + Wait + Sync>(
     stage: &CallStage<'_, G, R>,
     orders: Orders,
     accepted: Accepted,
@@ -93,6 +94,6 @@ fn accepted_run_due_by_crew<S: Source, G: Gate, R: Threads + Wait + Sync>(
         gate: stage.gate,
         orders,
     };
-    let due = indexed_run_due_by_crew(&runner, stage.alloc, &accepted, script);
+    let due = boxed_script_due_by_crew(&runner, stage.alloc, &accepted, script);
     due_behind(accepted, due)
 }

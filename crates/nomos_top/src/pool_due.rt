@@ -10,6 +10,7 @@ use crate::judging::judge;
 use crate::unaccepted::unaccepted_due;
 use nomos_answers::pools;
 use nomos_base::Source;
+use nomos_boxed::boxed::Boxed;
 use nomos_ir::limits::USUAL_LIMIT;
 use nomos_state::indexed::IndexedState;
 use nomos_types::accepted::Accepted;
@@ -59,6 +60,6 @@ fn accepted_pool_due<S: Source, R: Threads + Wait + Sync>(
         (source_state (S.left script.old) (S.faults script.old) (S.faults script.new))) }
     ensures given { given_of result ≡ Some accepted }
 {
-    let due = pools::pool_due::<IndexedState, S, R>(rt, alloc, &accepted, script, threads);
+    let due = pools::pool_due::<Boxed<IndexedState>, S, R>(rt, alloc, &accepted, script, threads);
     pooled_behind(accepted, due)
 }

@@ -21,6 +21,7 @@ use nomos_answers::benches::{self, Load};
 use nomos_answers::due::Due;
 use nomos_answers::{replays, runs};
 use nomos_base::Source;
+use nomos_boxed::boxed::Boxed;
 use nomos_ir::limits::USUAL_LIMIT;
 use nomos_legal::journal::Journal;
 use nomos_machine::policy::Policy;
@@ -31,7 +32,7 @@ use nomos_workers::batch::Crew;
 use std::alloc::Global;
 
 /// What is due for a run by these orders, by one worker.
-pub(crate) fn run_due<S: Source>(
+pub(crate) fn script_due<S: Source>(
     alloc: Global,
     orders: Orders,
     contract: &mut S,
@@ -54,13 +55,13 @@ pub(crate) fn run_due<S: Source>(
     ensures unread { given_of result ≡ None → script.new ≡ script.old }
 {
     match judge(alloc, contract) {
-        Ok(accepted) => accepted_run_due(alloc, orders, accepted, script),
+        Ok(accepted) => accepted_script_due(alloc, orders, accepted, script),
         Err(unaccepted) => unaccepted_due(alloc, orders.limit, unaccepted),
     }
 }
 
 // What is due for a run on an accepted contract.
-fn accepted_run_due<S: Source>(
+fn accepted_script_due<S: Source>(
     alloc: Global,
     orders: Orders,
     accepted: Accepted,
@@ -75,7 +76,7 @@ fn accepted_run_due<S: Source>(
     ensures given { given_of result ≡ Some accepted }
     ensures untaken { taken_of result ≡ None }
 {
-    let due = runs::run_due::<IndexedState, S>(orders, alloc, &accepted, script);
+    let due = runs::run_due::<Boxed<IndexedState>, S>(orders, alloc, &accepted, script);
     due_behind(accepted, due)
 }
 
@@ -123,7 +124,7 @@ fn accepted_replay_due<S: Source>(
     ensures unread { (text : List ℕ) → S.left script.old ≡ Some text
         → ((items : List ScriptItem) → ¬ ReadsAs text items) → journal.new ≡ journal.old }
 {
-    let due = replays::replay_due::<IndexedState, S>(alloc, &accepted, script, journal);
+    let due = replays::replay_due::<Boxed<IndexedState>, S>(alloc, &accepted, script, journal);
     due_behind(accepted, due)
 }
 
@@ -169,7 +170,7 @@ fn indexed_bench_due(
     ensures kept { IfOk result (λ due. kept_text due ≡ None) }
     ensures err { IfErr result (IsBenchPart accepted.now orders load) }
 {
-    benches::bench_due::<IndexedState>(orders, alloc, accepted, load)
+    benches::bench_due::<Boxed<IndexedState>>(orders, alloc, accepted, load)
 }
 
 // What is due for the load of `bench` on the accepted auction.

@@ -15,6 +15,7 @@ use crate::judging::judge;
 use crate::unaccepted::unaccepted_due;
 use nomos_answers::{resumes, saves};
 use nomos_base::Source;
+use nomos_boxed::boxed::Boxed;
 use nomos_ir::limits::USUAL_LIMIT;
 use nomos_state::indexed::IndexedState;
 use nomos_types::accepted::Accepted;
@@ -57,7 +58,7 @@ fn accepted_save_due<S: Source>(
     ensures given { given_of result ≡ Some accepted }
     ensures untaken { taken_of result ≡ None }
 {
-    let due = saves::save_due::<IndexedState, S>(alloc, &accepted, script);
+    let due = saves::save_due::<Boxed<IndexedState>, S>(alloc, &accepted, script);
     due_behind(accepted, due)
 }
 
@@ -107,6 +108,6 @@ fn accepted_resume_due<S: Source>(
     ensures unread { (text : List ℕ) → S.left snapshot.old ≡ Some text
         → ((first : LedgerState) → ¬ Loads accepted text (Ok first)) → script.new ≡ script.old }
 {
-    let due = resumes::resume_due::<IndexedState, S>(alloc, &accepted, snapshot, script);
+    let due = resumes::resume_due::<Boxed<IndexedState>, S>(alloc, &accepted, snapshot, script);
     due_behind(accepted, due)
 }

@@ -14,6 +14,7 @@ use crate::judging::judge;
 use crate::unaccepted::unaccepted_due;
 use nomos_answers::talks;
 use nomos_base::Source;
+use nomos_boxed::boxed::Boxed;
 use nomos_ir::limits::USUAL_LIMIT;
 use nomos_state::indexed::IndexedState;
 use nomos_types::accepted::Accepted;
@@ -67,6 +68,6 @@ fn accepted_talk_due<S: Source>(
     ensures unread { (script_text : List ℕ) → S.left script.old ≡ Some script_text
         → ((items : List ScriptItem) → ¬ ReadsAs script_text items) → text.new ≡ text.old }
 {
-    let due = talks::talk_due::<IndexedState, S>(alloc, &accepted, script, text, party);
+    let due = talks::talk_due::<Boxed<IndexedState>, S>(alloc, &accepted, script, text, party);
     due_behind(accepted, due)
 }

@@ -22,9 +22,9 @@ ghost use Rattle.nomos_words.specs.Words.{Asks};
 
 use crate::call_due::{CallDue, DoneSoFar, line_due};
 use crate::contract_alone::{check_due, least_due};
-use crate::crew_due::run_due_by_crew;
+use crate::crew_due::script_due_by_crew;
 use crate::pool_due::pool_due;
-use crate::scripts::{bench_due, replay_due, run_due};
+use crate::scripts::{bench_due, replay_due, script_due};
 use crate::snapshots::{resume_due, save_due};
 use crate::stage::CallStage;
 use crate::talk_due::talk_due;
@@ -94,6 +94,13 @@ fn waits(job: &Job) -> bool
 /// source is read only where it is its turn. Nothing is written before the last memory is taken. Status 7, want of
 /// memory, is the one answer for which no reason is given. Where the words ask for a run by several workers, or for one
 /// whose lines threads submit, it may wait for them; for all else it does what `nomos_by_one` does.
+///
+/// ```
+/// // The words of `nomos check FILE`; the text of FILE is read from `contract`.
+/// let (text, rest) = (&mut contract, &mut script);
+/// let ended = nomos(rt, alloc, &words, text, rest, &mut journal_in, &mut out, &mut journal_out, &gate);
+/// // The status is 0 where it is accepted, and 1 where it is not.
+/// ```
 pub fn nomos<S: Source, K: Sink, G: Gate, R: Threads + Wait + Sync>(
     rt: &R,
     alloc: Global,
@@ -218,7 +225,7 @@ fn know_accepted(accepted: &Option<Accepted>)
     ensures { (a : Acceptance) → accepted.now ≡ Some a → IsAccepted a }
 {
     if let Some(accepted) = accepted {
-        let _program = accepted.program();
+        accepted.know();
     }
 }
 
@@ -385,7 +392,7 @@ fn job_due<S: Source>(
             workers,
             steps,
             journal,
-        } => run_due(alloc, run_orders(workers, steps, journal), contract, script),
+        } => script_due(alloc, run_orders(workers, steps, journal), contract, script),
         Job::Replay {
             file: _,
             script: _,
@@ -448,7 +455,7 @@ fn waiting_due<S: Source, G: Gate, R: Threads + Wait + Sync>(
                 steps,
                 journal,
             },
-        ) => run_due_by_crew(stage, run_orders(workers, steps, journal), contract, script),
+        ) => script_due_by_crew(stage, run_orders(workers, steps, journal), contract, script),
         Some(
             Job::Pool {
                 file: _,

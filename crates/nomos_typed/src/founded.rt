@@ -21,7 +21,7 @@ fn name_has_mode(told: &Told<'_>, name: u32, mode: Mode) -> bool
     requires { IsTold told.now }
     ensures { IsTrue result ↔ NameHasMode (program_of told.now) told.now.types.now name mode }
 {
-    let _program = told.accepted.program();
+    told.accepted.know();
     match mode_in(told, name) {
         Some(own) => is_mode(own, mode),
         None => false,

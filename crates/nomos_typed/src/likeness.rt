@@ -50,7 +50,7 @@ pub(crate) fn has_type(
     ensures tells { IfOk result (Tells (amounts_in told.now) equalities.old.amounts equalities.new.amounts
         (NameFits told.now name t)) }
 {
-    let _program = told.accepted.program();
+    told.accepted.know();
     match told.type_of(name) {
         Some(own) => are_alike(told, equalities, own, t),
         None => Ok(false),

@@ -90,7 +90,7 @@ fn payload_fits(
     ensures tells { IfOk result (Tells (amounts_in told.now) equalities.old.amounts equalities.new.amounts
         (PayloadFits told.now message.now.to_client head.now message.now.payload message.now.purse)) }
 {
-    let _program = told.accepted.program();
+    told.accepted.know();
     let to_client = message.to_client;
     match &message.payload {
         Payload::Label(label) => Ok(if_unpaid(message.purse, label_fits(head, to_client, *label))),

@@ -209,7 +209,7 @@ fn is_placed(
     ensures tells { IfOk result (Tells (amounts_in told.now) equalities.old.amounts equalities.new.amounts
         (IsPlaced (acceptance_of told.now) told.now.types.now process.now)) }
 {
-    let _program = told.accepted.program();
+    told.accepted.know();
     let place = match places.get(process.code) {
         Some(place) => place,
         None => return Ok(false),

@@ -48,7 +48,7 @@ fn talk_of(told: &Told<'_>, led: Led) -> Option<Talk>
     requires { IsTold told.now }
     ensures { IsTalkFor told.now led result }
 {
-    let _program = told.accepted.program();
+    told.accepted.know();
     if !at_l(mode_in(told, led.name)) {
         return None;
     }

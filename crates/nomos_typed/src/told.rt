@@ -38,7 +38,7 @@ impl Told<'_> {
         requires in_range { IsTypeIn self.now t }
         ensures { HasMode self.now.accepted.now.program t result }
     {
-        let _lists = self.accepted.program().lists();
+        self.accepted.program().know();
         self.modes[t.0 as usize]
     }
 

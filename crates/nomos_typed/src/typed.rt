@@ -28,7 +28,7 @@ pub fn is_typed_if_placed(
     ensures typed { IfOk result (λ yes. AreProcessesPlaced accepted.now state.now
         → (IsTrue yes ↔ IsTyped accepted.now (state_of state.now))) }
 {
-    let _program = accepted.program();
+    accepted.know();
     let mentioned = are_names_mentioned(alloc, state)?;
     let owned = are_names_owned(alloc, accepted, state)?;
     let founded = are_objects_founded(alloc, accepted, state)?;

@@ -61,6 +61,15 @@ impl Accepted {
         &self.program
     }
 
+    /// What is known of each accepted program. It does nothing: where it is called, a proof rests on that.
+    #[inline(always)]
+    pub fn know(&self)
+        ensures typed { IsTypedProgram self.now.program self.now.annotations }
+        ensures accepted { IsAccepted self.now }
+    {
+        let _ = &self.program;
+    }
+
     /// How many Dths make a unit of gas.
     pub fn unit(&self) -> u32
         ensures { result ≡ self.now.annotations.unit }

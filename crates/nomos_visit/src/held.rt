@@ -65,8 +65,8 @@ impl<'a, M: Talking + Drop> HeldTalk<'a, M> {
         ensures held { (lines : ℕ) → IsHeld self.old lines → IfOk result (λ _. IsHeld self.new lines) }
         ensures same { (self.new.talk.a ≡ self.old.talk.a) × (self.new.talk.account ≡ self.old.talk.account) }
     {
-        // Where the program is read it is known to be accepted, and where the state is, that it is one of a talk.
-        let _program = self.accepted.program();
+        // Where the state is read it is known to be one of a talk.
+        self.accepted.know();
         let _state = self.talk.state();
         let Rested { made, how } = self.talk.run(alloc, self.left)?;
         self.left -= made;
@@ -264,8 +264,7 @@ pub fn hold_talk<M: Talking + Drop>(
     ensures { IfOk result (HasToldIn accepted.now ledger visit.entry.party.name.now visit.entry.party.proc.now
         visit.entry.limit visit.entry.lines.now text.items) }
 {
-    // Where the program is read it is known to be accepted.
-    let _program = accepted.program();
+    accepted.know();
     let Some(account) = ledger.account_of(visit.party.name) else {
         return refused(accepted, text, TalkRefusal::NoAccount);
     };

@@ -265,8 +265,7 @@ impl<'a> Walk<'a> {
             → IsAllowed self.old.accepted under.world.state (length under.world.firings) limit end.now
             → StandsFor self.old.accepted result }
     {
-        // Where the program is read it is known to be accepted.
-        let _program = self.arguments.accepted().program();
+        self.arguments.accepted().know();
         let BatchUnderWay {
             outset: _outset,
             world,

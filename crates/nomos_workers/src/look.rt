@@ -15,8 +15,11 @@ ghost use Rattle.nomos_workers.specs.Shops.{IsShop, history_of, opening, shop_of
 use crate::elsewhere::Elsewhere;
 use crate::trade::{KnownOutcome, Seeks, Turned};
 use nomos_deeds::fire::Fire;
+use nomos_deeds::sight::Sight;
 use nomos_deeds::undo::Undo;
 use nomos_eval::wanted::Wanted;
+use nomos_ir::ids::VarId;
+use nomos_ir::value::Value;
 use nomos_ledger::watched::Watched;
 use nomos_ledger::world::World;
 use nomos_legal::journal::{End, Firing};
@@ -36,6 +39,24 @@ const RESTS: u32 = 64;
 
 // So many ready processes a look goes past that others have in hand.
 const PASSED_BY: u32 = 16;
+
+// So many variables, and lists of such a weight in all, a process has at most whose terms are evaluated outside the
+// turn: its values are copied for that, and compared when the outcome comes back.
+const MOST_VARIABLES: usize = 100;
+
+const MOST_WEIGHT: u32 = 1_000;
+
+// Whether to copy and to compare these values takes no longer than a turn or two.
+fn are_light(values: &[(VarId, Value)]) -> bool {
+    if values.len() > MOST_VARIABLES {
+        return false;
+    }
+    let mut weight: u32 = 0;
+    for bound in values {
+        weight = weight.saturating_add(bound.1.node().weight());
+    }
+    weight <= MOST_WEIGHT
+}
 
 // A ready process that no other worker has in hand, from the one that was found on; or none, where so many are with
 // others.
@@ -88,7 +109,8 @@ fn chosen_one<M: Undo>(
     }
 }
 
-// What is to be evaluated of a process before it fires, if anything is and nothing was evaluated.
+// What is to be evaluated of a process outside the turn before it fires, if anything is and nothing was evaluated. The
+// terms of one with many values are evaluated within the turn.
 fn asked<M: Undo>(
     alloc: Global,
     accepted: &Accepted,
@@ -98,7 +120,7 @@ fn asked<M: Undo>(
 ) -> Result<Option<Wanted>, AllocError>
     requires { WorldStandsFor accepted.now watched.now.world }
 {
-    if known.is_some() {
+    if known.is_some() || !are_light(watched.world.state().values(pid)) {
         return Ok(None);
     }
     watched.world.wanted(alloc, accepted, pid)
@@ -122,8 +144,7 @@ fn fire<M: Undo>(
     ensures stands { WorldStandsFor accepted.now watched.new.world }
     ensures watched { IsWatched accepted.now watched.new.world.state watched.new.awake }
 {
-    // Where the program is read it is known to be accepted.
-    let _program = accepted.program();
+    accepted.know();
     match known {
         Some(known) => {
             watched.fire_with(alloc, accepted, firing, (&known.wanted, &known.outcome))
@@ -153,8 +174,7 @@ pub fn look<M: Undo>(
     ensures turns { IfOk result (TurnsOut (λ _. Unit {0})
         (IsAllowed accepted.now watched.new.world.state (length watched.new.world.firings) limit)) }
 {
-    // Where the program is read it is known to be accepted.
-    let _program = accepted.program();
+    accepted.know();
     watched.watch(alloc, accepted);
     let ready = watched.any_ready(accepted, looker.seeks.after);
     if let Some(end) = watched.end_where(accepted, limit, ready) {

@@ -106,8 +106,7 @@ fn fire_all<M: Undo>(
     ensures runs { RunsBy policy accepted.now limit watched.old.world watched.new.world }
     ensures ends { EndsBy policy accepted.now limit watched.new.world result }
 {
-    // Where the program is read it is known to be accepted.
-    let _program = accepted.program();
+    accepted.know();
     let mut chooser = Chooser { policy, last: 0 };
     'firings: for _made in 0..limit {
         match step(alloc, accepted, watched, limit, chooser) {

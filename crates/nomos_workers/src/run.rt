@@ -74,8 +74,7 @@ pub fn run_batch<M: Undo + Drop + Send, G: Gate, R: Threads + Wait + Sync>(
     ensures pays { IsUnderCostAll accepted.now.program
         → PaysFor accepted.now (length result.world.firings) result.world.origin.state result.world.state }
 {
-    // Where the program is read it is known to be accepted.
-    let _program = accepted.program();
+    accepted.know();
     let workers = match crew {
         Crew::One(policy) => return run_by(alloc, accepted, world, limit, policy),
         Crew::Many(workers) => workers,

@@ -17,4 +17,5 @@ pub record IsToldReady (a : Acceptance) (s : State) (w : Awake) (q : ℕ) : Type
 abbrev pub IsSought : Acceptance → State → Awake → ℕ → Option ℕ → Type 0
 IsSought a s w after (Some pid) =
     (after < pid) × IsReady a s pid × ((q : ℕ) → after < q → q < pid → ¬ (IsToldReady a s w q))
+    × IsTrue (contains nat_cmp w.ready pid)
 IsSought a s w after None = (q : ℕ) → after < q → ¬ (IsToldReady a s w q)

@@ -34,7 +34,7 @@ returns-in-Err-TooLong-clause-ok g c =
 pub returns-in-Err-TooLong-clause-legal : goal.returns-in-Err-TooLong-clause-legal
 returns-in-Err-TooLong-clause-legal g c = λ v kept text e is.
     let over = taken-within max_bytes text _ _ (c.in-Err-TooLong.ensures.too_long (cc)) e in
-    let within = text-within c.program-program.ensures.accepted c.items-items.ensures.size
+    let within = text-within c.know.ensures.accepted c.items-items.ensures.size
     c.items-items.ensures.written v kept text is in
     absurd (omega (arith, over, within))
 

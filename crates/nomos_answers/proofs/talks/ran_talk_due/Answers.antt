@@ -7,7 +7,7 @@ use Rattle.nomos_answers.proofs.talks.ran_talk_due.Goals as goal
 pub talked_due-requires-clause-room : goal.talked_due-requires-clause-room
 talked_due-requires-clause-room g c =
     let runs = rw c.usual_orders.ensures at c.run_script-journal.ensures.runs in
-    whole-room c.program-program.ensures.accepted (whole-run c.in-Some.whole runs c.in-Some.is)
+    whole-room c.know.ensures.accepted (whole-run c.in-Some.whole runs c.in-Some.is)
     c.items-items.ensures.size (length c.args.visit.lines.now) c.requires.few
 
 pub returns-in-Some-clause-ok : goal.returns-in-Some-clause-ok

@@ -1,10 +1,9 @@
-use Rattle.std.proofs.Common.{◌≡◌, ◌∙◌, ◌+◌, Some, ℕ, sym, ap, refl}
+use Rattle.std.proofs.Common.{◌≡◌, ◌∙◌, ◌+◌, Some, ℕ, sym, ap}
 use Rattle.nomos_machine.specs.Deeds.{alone}
 use Rattle.nomos_machine.specs.Revised.{poorer, standing_at}
 use Rattle.nomos_machine.specs.State.{State, process_at}
 use Rattle.nomos_deeds.specs.declared.act.Act.TheVariants as act
 use Rattle.nomos_changes.specs.SmallChanges.{with_process}
-use Rattle.nomos_changes.proofs.BecomesLemmas.{becomes-then}
 use Rattle.nomos_changes.proofs.MadeLemmas.{can-acts, one-some, work-made}
 use Rattle.nomos_changes.proofs.acts_alone.act_work.Goals as goal
 
@@ -19,10 +18,9 @@ returns-clause-state g c a vs can =
     let there : process_at (g.P.Sight.state c.burn.new.self) c.args.pid ≡ Some p =
     ap (λ (s : State). process_at s c.args.pid) burnt ∙ acts.there in
     let is = one-some acts.change (record (alone a s p q) { burnt = c.args.gas }) (sym acts.changes) in
-    becomes-then (g.P.Sight.state c.burn.new.self) (g.P.Sight.state c.spend.new.parts)
-    (g.P.Sight.state c.go_on.new.parts)
-    c.args.pid p (poorer c.args.gas p) (standing_at c.args.next) there refl (c.spend.ensures.state p there)
-    c.go_on.ensures.state
+    c.spend.ensures.state p there
+    ∙ ap (λ (n : ℕ). with_process c.args.pid (standing_at c.args.next (poorer n p)) (g.P.Sight.state c.burn.new.self))
+    c.from-2.ensures
     ∙ ap (with_process c.args.pid q) burnt
     ∙ work-made a s p q c.args.pid c.args.gas acts.change acts.number is
     ∙ sym acts.makes

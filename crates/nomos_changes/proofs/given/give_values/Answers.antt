@@ -14,23 +14,23 @@ some_par : Par
 some_par = record { var = record { 0 = 0 }; kind = record { lists = 0; base = base.Int }; amount = None }
 
 pub returns-then-args-pars : goal.returns-then-args-pars
-returns-then-args-pars c p same =
-    unequal-values p c.args.values c.args.args.now c.args.pars.now c.if-args-pars.true
+returns-then-args-pars g c p there =
+    unequal-values p c.args.values c.args.start.0.now c.args.start.1.now c.if-args-pars.true
 
 pub returns-in-None-list_of : goal.returns-in-None-list_of
-returns-in-None-list_of c p same =
+returns-in-None-list_of g c p there =
     let made = c.loop-at.given in
     let w = c.in-List.w in
-    let nowhere = c.in-None-list_of.ensures ∙ ap (bound_to w.0) (sym same) in
-    gives-nothing p made.values.items made.lists.items c.args.args.now c.args.pars.now c.loop-at.at _ some_par
+    let nowhere = c.in-None-list_of.ensures ∙ ap (bound_to w.0) (c.lists.ensures p there) in
+    gives-nothing p made.values.items made.lists.items c.args.start.0.now c.args.start.1.now c.loop-at.at _ some_par
     (omega arith) (omega arith) c.loop-at.left w c.in-List.is nowhere
-    ∙ c.loop-at.invariant p same
+    ∙ c.loop-at.invariant p there
 
 pub loop-at-preserved : goal.loop-at-preserved
-loop-at-preserved c p same =
+loop-at-preserved g c p there =
     let made = c.loop-at.given in
-    let args = c.args.args.now in
-    let pars = c.args.pars.now in
+    let args = c.args.start.0.now in
+    let pars = c.args.start.1.now in
     let i = c.loop-at.at in
     let before = c.loop-at.left in
     elim c.match-args-at.branch [
@@ -44,13 +44,14 @@ loop-at-preserved c p same =
           (gives-value p made.values.items made.lists.items args pars i _ _ (omega arith) (omega arith)
           w.value_from.result w.in-Some.rest before w.push.new.self.items w.in-Term.field-0 w.in-Term.is first
           w.in_ok-push-in-Some.ensures.items
-          ∙ c.loop-at.invariant p same)
+          ∙ c.loop-at.invariant p there)
       | in-List+in-Some-list_of+in_ok-copy_list-in-Some-list_of+in_ok-push-in-Some-list_of w ↦
           let copied = w.in_ok-copy_list-in-Some-list_of in
-          let found = ap Some copied.ensures ∙ w.in-Some-list_of.ensures ∙ ap (bound_to w.in-List.w.0) (sym same) in
+          let found = ap Some copied.ensures ∙ w.in-Some-list_of.ensures
+          ∙ ap (bound_to w.in-List.w.0) (w.lists.ensures p there) in
           rw (w.given-is, w.left-is)
           (gives-list p made.values.items made.lists.items args pars i _ _ (omega arith) (omega arith) before
           w.in-List.w copied.field-0 w.push-in-Some-list_of.new.self.items w.in-List.is found
           w.in_ok-push-in-Some-list_of.ensures.items
-          ∙ c.loop-at.invariant p same)
+          ∙ c.loop-at.invariant p there)
     ]

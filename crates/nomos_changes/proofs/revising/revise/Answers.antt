@@ -1,4 +1,4 @@
-use Rattle.std.proofs.Common.{◌≡◌, ◌∙◌, sym, ap, refl}
+use Rattle.std.proofs.Common.{◌≡◌, ◌∙◌, ℕ, sym, ap, refl}
 use Rattle.nomos_machine.specs.Revised.{poorer, standing_at, with_value}
 use Rattle.nomos_machine.specs.declared.object.Process.{Process}
 use Rattle.nomos_changes.specs.Revisions.{revised}
@@ -12,9 +12,8 @@ returns-in-Spends-clause-ok g c p q there makes =
     let s = g.P.Sight.state c.args.parts.now in
     let is : poorer c.in-Spends.gas p ≡ q =
     one-some (poorer c.in-Spends.gas p) q (sym (ap (λ r. revised r p) c.in-Spends.is) ∙ makes) in
-    becomes-then s (g.P.Sight.state c.spend.new.parts) (g.P.Sight.state c.go_on-in-Spends.new.parts) c.args.pid p
-    (poorer c.in-Spends.gas p) (standing_at c.args.next) there refl (c.spend.ensures.state p there)
-    c.go_on-in-Spends.ensures.state
+    c.spend.ensures.state p there
+    ∙ ap (λ (gas : ℕ). with_process c.args.pid (standing_at c.args.next (poorer gas p)) s) c.from.ensures
     ∙ ap (λ (q : Process). with_process c.args.pid (standing_at c.args.next q) s) is
 
 pub returns-in_ok-bind_value-in-Binds-clause-ok : goal.returns-in_ok-bind_value-in-Binds-clause-ok

@@ -1,7 +1,9 @@
 use Rattle.std.proofs.Common.{◌≡◌, ◌∙◌, ℕ, sym, ap, arith, refl}
 use Rattle.nomos_ir.specs.declared.declaration.ProcDecl.{ProcDecl}
 use Rattle.nomos_types.specs.Amount.{dths}
+use Rattle.nomos_deeds.specs.SeenObjects.{seen_process}
 use Rattle.nomos_deeds.specs.declared.act.Act.TheVariants as act
+use Rattle.nomos_deeds.specs.declared.sight.SeenProcess.{SeenProcess}
 use Rattle.nomos_machine.specs.Change.{Change}
 use Rattle.nomos_machine.specs.Deeds.{spawns}
 use Rattle.nomos_machine.specs.Given.{Given, begins}
@@ -22,10 +24,11 @@ spawn_child-requires-clause-fits g c p d args gives there begins_with =
     let own = acts.process in
     let got = begun-change a s own spawn.declaration c.args.values acts.change
     (λ d args g. spawns a s own spawn.variable d args g spawn.next) acts.changes in
-    let has : HasBegun a s spawn.pid spawn.declaration c.args.values got.declaration got.args got.gives own.payer =
-    record { process = own; there = acts.there; begins = got.begins; payer_is = refl } in
+    let has : HasBegun a s spawn.pid spawn.declaration c.args.values got.declaration got.args got.gives
+    (seen_process own) =
+    record { process = own; there = acts.there; begins = got.begins; seen_is = refl } in
     let same = begun-is a s spawn.pid spawn.declaration c.args.values got.declaration d got.args args
-    got.gives gives own.payer p has there begins_with in
+    got.gives gives (seen_process own) p has there begins_with in
     let child = comes-in s acts.change _ (ap (λ (c : Change). c.comes) got.is) in
     let purse : ProcDecl → Given → ℕ → ℕ =
     λ (d : ProcDecl) (g : Given) (payer : ℕ).
@@ -33,7 +36,7 @@ spawn_child-requires-clause-fits g c p d args gives there begins_with =
     let alike : purse got.declaration got.gives own.payer ≡ purse d gives p.payer =
     ap (λ (d : ProcDecl). purse d got.gives own.payer) same.declaration
     ∙ ap (λ (g : Given). purse d g own.payer) same.gives
-    ∙ ap (λ (payer : ℕ). purse d gives payer) same.payer_is
+    ∙ ap (λ (seen : SeenProcess). purse d gives seen.payer) same.seen_is
     in
     omega (arith, child, alike, acts.gas_after)
 

@@ -33,4 +33,4 @@ pub returns-clause-typed : goal.returns-clause-typed
 returns-clause-typed g c =
     line-typed c.args.accepted.now (g.P.Sight.state c.args.parts.now) (g.P.Sight.state c.come.new.parts)
     c.args.line.declaration.0 c.args.line.values.now c.args.line.names.now c.args.line.payer
-    c.program-program.ensures.accepted c.requires.may.typed c.requires.start (returns-clause-ok g c).1
+    c.know.ensures.accepted c.requires.may.typed c.requires.start (returns-clause-ok g c).1

@@ -17,7 +17,7 @@ returns-in_default-clause-ok g c = (
 
 pub returns-in_default-message_on-clause-ok : goal.returns-in_default-message_on-clause-ok
 returns-in_default-message_on-clause-ok g c = (
-  nothing-there c.program-program.ensures.accepted c.requires.typed c.in-Some.name c.in-Some.ensures
+  nothing-there c.know.ensures.accepted c.requires.typed c.in-Some.name c.in-Some.ensures
       c.in_default-message_on.ensures,
   refl,
 )
@@ -26,7 +26,7 @@ pub heard_of-requires : goal.heard_of-requires
 heard_of-requires g c =
     let name = c.in-Some.name in
     let seen = c.in-Some-message_on.seen in
-    let found = seen-found c.program-program.ensures.accepted c.requires.typed name c.in-Some.ensures c.requires.few
+    let found = seen-found c.know.ensures.accepted c.requires.typed name c.in-Some.ensures c.requires.few
     c.requires.hearable seen c.in-Some-message_on.ensures in
     subst (λ (t : State). IsThere t name seen) (sym c.in_ok-make_room.ensures.state) found.there
 
@@ -34,7 +34,7 @@ pub listen-requires-clause-there : goal.listen-requires-clause-there
 listen-requires-clause-there g c =
     let name = c.in-Some.name in
     let seen = c.in-Some-message_on.seen in
-    let found = seen-found c.program-program.ensures.accepted c.requires.typed name c.in-Some.ensures c.requires.few
+    let found = seen-found c.know.ensures.accepted c.requires.typed name c.in-Some.ensures c.requires.few
     c.requires.hearable seen c.in-Some-message_on.ensures in
     subst (λ (t : State). IsThere t name seen) (sym c.in_ok-make_room.ensures.state) found.there
 
@@ -42,7 +42,7 @@ pub returns-clause-ok : goal.returns-clause-ok
 returns-clause-ok g c =
     let name = c.in-Some.name in
     let seen = c.in-Some-message_on.seen in
-    let accepted = c.program-program.ensures.accepted in
+    let accepted = c.know.ensures.accepted in
     let typed = c.requires.typed in
     let outside = c.in-Some.ensures in
     let account = c.args.account in
@@ -57,5 +57,5 @@ returns-clause-ok g c =
 
 pub returns-clause-typed : goal.returns-clause-typed
 returns-clause-typed g c =
-    hearing-typed c.program-program.ensures.accepted c.requires.typed c.in-Some.name c.in-Some.ensures
+    hearing-typed c.know.ensures.accepted c.requires.typed c.in-Some.name c.in-Some.ensures
     c.in_ok-heard.heard c.args.account (g.P.Sight.state c.listen.new.parts) (returns-clause-ok g c)

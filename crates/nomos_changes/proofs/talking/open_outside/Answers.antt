@@ -32,5 +32,5 @@ returns-clause-ok g c =
 
 pub returns-clause-typed : goal.returns-clause-typed
 returns-clause-typed g c =
-    (opens-party c.program-program.ensures.accepted c.requires.may.typed c.args.opening.declaration.0
+    (opens-party c.know.ensures.accepted c.requires.may.typed c.args.opening.declaration.0
     (returns-clause-ok g c).1).has.typed

@@ -29,5 +29,5 @@ pub returns-clause-typed : goal.returns-clause-typed
 returns-clause-typed g c =
     let h = returns-clause-ok g c in
     subst (IsTyped c.args.accepted.now) (sym h.after)
-    (said-typed c.program-program.ensures.accepted c.requires.may.typed c.args.saying.said.now h.gas h.goes h.may
+    (said-typed c.know.ensures.accepted c.requires.may.typed c.args.saying.said.now h.gas h.goes h.may
     c.args.saying.account)

@@ -13,7 +13,7 @@ pub list_grows-requires : goal.list_grows-requires
 list_grows-requires c =
     let it = c.args.adding in
     let node = code.Add c.requires.stands.0 it.longer it.element it.list it.next in
-    (code-in_range c.args.program.now (shape_of c.args.now.now) node c.lists-lists.ensures.program
+    (code-in_range c.args.program.now (shape_of c.args.now.now) node c.know.ensures.program
     c.requires.stands.1).terms 0 0 (omega arith)
 
 pub spend-requires : goal.spend-requires
@@ -22,7 +22,7 @@ spend-requires c =
     let s = c.args.now.now in
     let found = found-list s it.list (Adds c.args.program.now
     (shape_of s) it.longer it.element it.list) _ c.in-Some.carried c.in_ok-carried.ensures c.in-Some.is in
-    room-at c.lists-lists.ensures.program s c.in-Some.carried.amount c.requires.within
+    room-at c.know.ensures.program s c.in-Some.carried.amount c.requires.within
     (list-amount s it.list.0 c.in-Some.carried c.requires.within found.1)
 
 pub returns-in_ok-bind-in-Some : goal.returns-in_ok-bind-in-Some

@@ -7,5 +7,5 @@ use Rattle.nomos_check.proofs.mode_rules.has_mode.Goals as goal
 pub returns : goal.returns
 returns c = (
   λ yes. subst (λ (m : Mode). HasMode c.args.program.now c.args.t m) (c.is_mode.ensures.0 yes) c.mode_of.ensures,
-  λ has. c.is_mode.ensures.1 (mode-unique c.lists-lists.ensures.program c.mode_of.ensures has),
+  λ has. c.is_mode.ensures.1 (mode-unique c.know.ensures.program c.mode_of.ensures has),
 )

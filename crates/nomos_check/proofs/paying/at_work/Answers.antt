@@ -11,7 +11,7 @@ use Rattle.nomos_check.proofs.paying.at_work.Goals as goal
 
 pub spend-requires : goal.spend-requires
 spend-requires c =
-    let is_program = c.lists-lists.ensures.program in
+    let is_program = c.know.ensures.program in
     let node = code.Work c.requires.stands.0 c.args.amount c.args.next in
     room-at is_program c.args.now.now c.args.amount c.requires.within
     (code-amount is_program c.args.now.now.code.0 node c.args.amount c.requires.stands.1 (0, omega arith, refl))

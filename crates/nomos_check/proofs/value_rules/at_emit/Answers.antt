@@ -12,7 +12,7 @@ use Rattle.nomos_check.proofs.value_rules.at_emit.Goals as goal
 pub kind_of-requires : goal.kind_of-requires
 kind_of-requires c =
     let node = code.Emit c.requires.stands.0 c.args.e c.args.next in
-    (code-in_range c.args.program.now (shape_of c.args.now.now) node c.lists-lists.ensures.program
+    (code-in_range c.args.program.now (shape_of c.args.now.now) node c.know.ensures.program
     c.requires.stands.1).terms 0 0 (omega arith)
 
 pub returns-in-Some : goal.returns-in-Some

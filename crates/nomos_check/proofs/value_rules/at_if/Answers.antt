@@ -12,7 +12,7 @@ pub is_of_kind-requires : goal.is_of_kind-requires
 is_of_kind-requires c =
     let it = c.args.choosing in
     let node = code.If c.requires.stands.0 it.test it.then_next it.else_next in
-    (code-in_range c.args.program.now (shape_of c.args.now.now) node c.lists-lists.ensures.program
+    (code-in_range c.args.program.now (shape_of c.args.now.now) node c.know.ensures.program
     c.requires.stands.1).terms 0 0 (omega arith)
 
 pub returns-then-not-branch : goal.returns-then-not-branch

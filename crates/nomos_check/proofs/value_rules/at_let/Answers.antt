@@ -17,7 +17,7 @@ pub kind_of-requires : goal.kind_of-requires
 kind_of-requires c =
     let it = c.args.letting in
     let node = code.Let c.requires.stands.0 it.var it.term it.next in
-    (code-in_range c.args.program.now (shape_of c.args.now.now) node c.lists-lists.ensures.program
+    (code-in_range c.args.program.now (shape_of c.args.now.now) node c.know.ensures.program
     c.requires.stands.1).terms 0 0 (omega arith)
 
 pub returns-in_ok-bind_value-in-Some : goal.returns-in_ok-bind_value-in-Some

@@ -7,5 +7,5 @@ use Rattle.nomos_equality.proofs.synchronizing.synchronizing.Goals as goal
 
 pub leads_back_to-requires-clause-from : goal.leads_back_to-requires-clause-from
 leads_back_to-requires-clause-from c =
-    part-below c.args.program.now c.args.shared.0 c.node.result.now hop.Next c.in-Up.body c.lists-lists.ensures.program
+    part-below c.args.program.now c.args.shared.0 c.node.result.now hop.Next c.in-Up.body c.know.ensures.program
     c.node.ensures (ap (λ (n : TypeNode). part_by n hop.Next) c.in-Up.is)

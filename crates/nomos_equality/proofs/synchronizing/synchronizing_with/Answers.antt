@@ -8,7 +8,7 @@ use Rattle.nomos_equality.proofs.synchronizing.synchronizing_with.Goals as goal
 
 pub leads_back_with-requires-clause-from : goal.leads_back_with-requires-clause-from
 leads_back_with-requires-clause-from c =
-    part-below c.args.program.now c.args.shared.0 c.node.result.now hop.Next c.in-Up.body c.lists-lists.ensures.program
+    part-below c.args.program.now c.args.shared.0 c.node.result.now hop.Next c.in-Up.body c.know.ensures.program
     c.node.ensures (ap (λ (n : TypeNode). part_by n hop.Next) c.in-Up.is)
 
 pub returns-in_default-clause-kept : goal.returns-in_default-clause-kept

@@ -3,5 +3,5 @@ use Rattle.nomos_ledger.proofs.at_rest.is_quiet.Goals as goal
 
 pub returns : goal.returns
 returns g c =
-    quiet-no_next c.program-program.ensures.accepted c.requires c.next_ready.result c.is_none.result c.is_none.ensures
+    quiet-no_next c.know.ensures.accepted c.requires c.next_ready.result c.is_none.result c.is_none.ensures
     c.next_ready.ensures

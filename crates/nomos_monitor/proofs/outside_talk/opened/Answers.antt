@@ -7,7 +7,7 @@ invariant_of-result g c =
     let by = c.requires.open.1 in
     record {
       talk =
-          named-talk c.program-program.ensures.accepted c.requires.may.typed c.requires.may.gas
+          named-talk c.know.ensures.accepted c.requires.may.typed c.requires.may.gas
           (opens-named by c.in-Ok.ensures.ok);
       watched = c.in-Ok.ensures.watched;
       unmarked = c.in-Ok.ensures.marked;

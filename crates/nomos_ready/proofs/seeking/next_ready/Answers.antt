@@ -12,7 +12,7 @@ returns-in_err-pid-clause-next g c =
     let s = g.M.Sight.state c.args.machine.now in
     let answer : c.from_residual.result ≡ None = grind (arith, common_steps) in
     subst (λ (o : Option ℕ). MatchOption o (NoneReady a s c.args.after) (IsNextReady a s c.args.after)) (sym answer)
-    (seek-next c.program-program.ensures.accepted c.requires.typed c.args.awake.now c.seek.new.awake found.covers
+    (seek-next c.know.ensures.accepted c.requires.typed c.args.awake.now c.seek.new.awake found.covers
     c.args.after (known.known refl) (known.from refl) found.lost found.sought None c.in_err-pid.ensures.found)
 
 pub returns-clause-covers : goal.returns-clause-covers
@@ -20,7 +20,7 @@ returns-clause-covers g c =
     let known = c.if-not-knows_over.ensures in
     let found = c.seek.ensures in
     let clauses = c.reach.ensures in
-    reach-covers c.program-program.ensures.accepted c.requires.typed c.args.awake.now c.seek.new.awake found.covers
+    reach-covers c.know.ensures.accepted c.requires.typed c.args.awake.now c.seek.new.awake found.covers
     c.args.after (known.known refl) (known.from refl) found.lost found.sought c.reach.new.self c.in_ok-pid.pid
     c.in_ok-pid.ensures.found clauses.sought clauses.ready clauses.same clauses.followed
 
@@ -28,6 +28,9 @@ pub returns-clause-next : goal.returns-clause-next
 returns-clause-next g c =
     let known = c.if-not-knows_over.ensures in
     let found = c.seek.ensures in
-    seek-next c.program-program.ensures.accepted c.requires.typed c.args.awake.now c.seek.new.awake found.covers
+    seek-next c.know.ensures.accepted c.requires.typed c.args.awake.now c.seek.new.awake found.covers
     c.args.after (known.known refl) (known.from refl) found.lost found.sought (Some c.in_ok-pid.pid)
     c.in_ok-pid.ensures.found
+
+pub reach-requires : goal.reach-requires
+reach-requires g c = c.in_ok-pid.ensures.found.3

@@ -6,7 +6,7 @@ use Rattle.nomos_ready.proofs.seeking.seek.Goals as goal
 pub returns-then-ready-clause-found : goal.returns-then-ready-clause-found
 returns-then-ready-clause-found g c =
     let is = c.looks.invariant in
-    found-told c.program-program.ensures.accepted c.requires.typed c.looks.awake c.args.after c.looks.from is.none
+    found-told c.know.ensures.accepted c.requires.typed c.looks.awake c.args.after c.looks.from is.none
     c.in-Some.pid is.over c.in-Some.ensures (c.ready.ensures.0 c.if-ready.true)
 
 pub looks-preserved : goal.looks-preserved
@@ -18,7 +18,7 @@ looks-preserved g c =
     absurd cc
     in
     let clauses = c.settle.ensures in
-    let accepted = c.program-program.ensures.accepted in
+    let accepted = c.know.ensures.accepted in
     record {
       lost = clauses.lost ∙ is.lost;
       sought = clauses.sought ∙ is.sought;
@@ -35,5 +35,5 @@ looks-preserved g c =
 pub returns-clause-found : goal.returns-clause-found
 returns-clause-found g c =
     let is = c.looks.invariant in
-    none-told c.program-program.ensures.accepted c.requires.typed c.looks.awake c.args.after c.looks.from is.none
+    none-told c.know.ensures.accepted c.requires.typed c.looks.awake c.args.after c.looks.from is.none
     c.in_default.ensures

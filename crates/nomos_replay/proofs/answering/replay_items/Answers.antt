@@ -23,7 +23,7 @@ replay_item-requires-clause-program g c =
 pub replay_item-requires-clause-stands : goal.replay_item-requires-clause-stands
 replay_item-requires-clause-stands g c =
     told-stands c.args.trial.now.accepted.now c.args.trial.now.version c.args.from c.args.walk.now.limit
-    c.args.trial.now.wanted c.items.invariant.told c.program-program.ensures.accepted
+    c.args.trial.now.wanted c.items.invariant.told c.know.ensures.accepted
     (ledger-standing c.requires.stands c.requires.ledger)
 
 pub replay_item-requires-clause-room : goal.replay_item-requires-clause-room
@@ -35,7 +35,7 @@ replay_item-requires-clause-room g c =
     take_more items n i c.items-test.true ∙ ap (λ (x : ScriptItem). take n items ++ x ∷ []) (sym c.item-item.is)
     in
     told-room c.args.trial.now.accepted.now c.args.trial.now.version c.args.from c.args.walk.now.limit
-    c.args.trial.now.wanted items n c.items.invariant.told c.program-program.ensures.accepted
+    c.args.trial.now.wanted items n c.items.invariant.told c.know.ensures.accepted
     (ledger-standing c.requires.stands c.requires.ledger) c.requires.numbers c.requires.accounts i c.requires.size more
 
 pub replay_item-requires-clause-made : goal.replay_item-requires-clause-made

@@ -18,5 +18,5 @@ returns-in-Some-clause-read c = λ first all v.
 
 pub returns-in-None-clause-read : goal.returns-in-None-clause-read
 returns-in-None-clause-read c = λ first all v.
-    stops-no_form c.args.accepted.now first all c.program-program.ensures.accepted c.in_ok-line.ensures.ok tt
+    stops-no_form c.args.accepted.now first all c.know.ensures.accepted c.in_ok-line.ensures.ok tt
     (steps-form v _ c.in-None.ensures)

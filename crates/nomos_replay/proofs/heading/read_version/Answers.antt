@@ -17,5 +17,5 @@ returns-in-Some-clause-read c = λ first all.
 
 pub returns-in-None-clause-read : goal.returns-in-None-clause-read
 returns-in-None-clause-read c = λ first all.
-    stops-no_form c.args.accepted.now first all c.program-program.ensures.accepted c.in_ok-line.ensures.ok tt
+    stops-no_form c.args.accepted.now first all c.know.ensures.accepted c.in_ok-line.ensures.ok tt
     (head-form _ c.in-None.ensures)

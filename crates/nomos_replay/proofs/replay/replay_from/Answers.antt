@@ -9,7 +9,7 @@ returns-in_err-whole-clause-err g c =
 pub returns-in_err-whole-clause-legal : goal.returns-in_err-whole-clause-legal
 returns-in_err-whole-clause-legal g c = λ v journal is.
     let p = err_from_is_err_and c.from_residual.result c.from_residual.ensures.1 in
-    let accepted = c.program-program.ensures.accepted in
+    let accepted = c.know.ensures.accepted in
     let script = c.items-items.ensures in
     let standing = ledger-standing c.requires.stands c.account-account.ensures.ledger in
     rw (p.1, p.2)
@@ -21,7 +21,7 @@ pub returns-in_err-whole-clause-refuses : goal.returns-in_err-whole-clause-refus
 returns-in_err-whole-clause-refuses g c = λ why given.
     let p = err_from_is_err_and c.from_residual.result c.from_residual.ensures.1 in
     rw (p.1, p.2)
-    (one-refusal c.args.accepted.now c.args.from c.args.script.now c.args.bytes.now c.program-program.ensures.accepted
+    (one-refusal c.args.accepted.now c.args.from c.args.script.now c.args.bytes.now c.know.ensures.accepted
     why given c.in_err-whole.field-0.0 c.in_err-whole.ensures)
 
 pub with_report-requires : goal.with_report-requires
@@ -37,7 +37,7 @@ returns-clause-ok g c =
 
 pub returns-clause-legal : goal.returns-clause-legal
 returns-clause-legal g c = λ v journal is.
-    let accepted = c.program-program.ensures.accepted in
+    let accepted = c.know.ensures.accepted in
     let script = c.items-items.ensures in
     let standing = ledger-standing c.requires.stands c.account-account.ensures.ledger in
     rw c.with_report.ensures.journal
@@ -48,10 +48,10 @@ returns-clause-legal g c = λ v journal is.
 pub returns-clause-refuses : goal.returns-clause-refuses
 returns-clause-refuses g c = λ why given.
     answered-once c.args.accepted.now c.args.from c.args.script.now c.args.bytes.now c.in_ok-whole.ensures
-    c.program-program.ensures.accepted why given
+    c.know.ensures.accepted why given
 
 pub returns-clause-stands : goal.returns-clause-stands
 returns-clause-stands g c =
     rw c.with_report.ensures.ledger
     (answered-stands c.args.accepted.now c.args.from c.args.script.now c.args.bytes.now c.in_ok-whole.ensures
-    c.program-program.ensures.accepted (ledger-standing c.requires.stands c.account-account.ensures.ledger))
+    c.know.ensures.accepted (ledger-standing c.requires.stands c.account-account.ensures.ledger))

@@ -38,7 +38,7 @@ returns-in-Ok-clause-ran g c =
 
 pub fire_line-requires-clause-numbers : goal.fire_line-requires-clause-numbers
 fire_line-requires-clause-numbers g c = λ left.
-    ran-numbers c.program-program.ensures.accepted c.requires.room c.lines.invariant.ran left
+    ran-numbers c.know.ensures.accepted c.requires.room c.lines.invariant.ran left
 
 pub returns-in_err-fire_line-in-Err-clause-read : goal.returns-in_err-fire_line-in-Err-clause-read
 returns-in_err-fire_line-in-Err-clause-read g c = λ first all items batch told same.
@@ -48,7 +48,7 @@ returns-in_err-fire_line-in-Err-clause-read g c = λ first all items batch told 
     let stops = rw c.in-Err.ensures.0 at c.in_err-fire_line-in-Err.ensures.fires in
     rw (p.1, p.2)
     (stops-later a first all (c.lines.invariant.carries first all items batch told same) _
-    (stops-firing a c.args.trial.now.version c.args.most c.program-program.ensures.accepted c.lines.watched.world
+    (stops-firing a c.args.trial.now.version c.args.most c.know.ensures.accepted c.lines.watched.world
     c.in_ok-line.ensures.ok c.in-Err.ensures.1 _ stops first all items batch told same))
 
 pub lines-preserved : goal.lines-preserved

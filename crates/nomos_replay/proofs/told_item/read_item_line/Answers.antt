@@ -16,6 +16,6 @@ returns-in_err-line-clause-err c =
 
 pub returns-else-named-clause-err : goal.returns-else-named-clause-err
 returns-else-named-clause-err c = λ told i first all items is.
-    stops-no_form c.args.trial.now.accepted.now first all c.program-program.ensures.accepted c.in_ok-line.ensures.ok
+    stops-no_form c.args.trial.now.accepted.now first all c.know.ensures.accepted c.in_ok-line.ensures.ok
     (wants-item c.args.trial.now.version told i items c.args.at c.args.source.now.lines is)
     (item-form c.args.trial.now.version told i items c.args.at _ is (λ same. false≢true (c.if-named.ensures.1 same)))

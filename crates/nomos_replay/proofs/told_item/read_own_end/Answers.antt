@@ -15,7 +15,7 @@ returns-in_err-line-clause-err c =
 
 pub returns-in-Err-clause-err : goal.returns-in-Err-clause-err
 returns-in-Err-clause-err c = λ told i at after first all items.
-    stops-no_form c.args.trial.now.accepted.now first all c.program-program.ensures.accepted c.in_ok-line.ensures.ok tt
+    stops-no_form c.args.trial.now.accepted.now first all c.know.ensures.accepted c.in_ok-line.ensures.ok tt
     (owes-form c.args.trial.now.version told i at c.args.own after items _ c.in-Err.ensures.1)
 
 pub returns-else-same-clause-err : goal.returns-else-same-clause-err

@@ -8,7 +8,7 @@ use Rattle.nomos_report.proofs.course.push_batch_end.Goals as goal
 pub push_course_end-requires-clause-typed : goal.push_course_end-requires-clause-typed
 push_course_end-requires-clause-typed g c =
     subst (IsTyped c.args.accepted.now) (sym c.state.ensures.state)
-    (world-typed c.program-program.ensures.accepted c.requires.stands)
+    (world-typed c.know.ensures.accepted c.requires.stands)
 
 pub push_course_end-requires-clause-over : goal.push_course_end-requires-clause-over
 push_course_end-requires-clause-over g c = rw c.state.ensures.state c.before_transactions.ensures

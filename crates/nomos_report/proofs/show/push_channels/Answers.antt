@@ -36,7 +36,7 @@ loop-next-preserved g c =
     ∙ ap (λ (t : List ℕ). t ++ name_line a s m) c.loop-next.invariant
     ∙ append_assoc before so_far (name_line a s m)
     ∙ ap (λ (t : List ℕ). before ++ t)
-    (sym (names-next a s c.program-program.ensures.accepted c.requires.numbered.table n m c.in-Some.ensures))
+    (sym (names-next a s c.know.ensures.accepted c.requires.numbered.table n m c.in-Some.ensures))
 
 pub returns : goal.returns
 returns g c =
@@ -44,4 +44,4 @@ returns g c =
     let s = g.M.Sight.state c.args.machine.now in
     c.loop-next.invariant
     ∙ ap (λ (t : List ℕ). c.args.text.now.items ++ t)
-    (names-last a s c.program-program.ensures.accepted c.requires.numbered.table c.loop-next.name c.in_default.ensures)
+    (names-last a s c.know.ensures.accepted c.requires.numbered.table c.loop-next.name c.in_default.ensures)

@@ -32,7 +32,7 @@ returns-clause-runs g c =
     script-run _ c.end.result c.run_items-last.result (begun-accepted
     (gone-begun c.args.accepted.now c.args.from c.args.orders c.requires.limit c.in-Ok.ensures.walk
     c.in-Ok.ensures.entries))
-    (c.as_slice-items.ensures ∙ c.items.ensures.items) c.program-program.ensures.accepted
+    (c.as_slice-items.ensures ∙ c.items.ensures.items) c.know.ensures.accepted
     (ledger-standing c.requires.stands c.know_ledger.ensures) c.run_items-last.ensures.ok c.run_items-last.ensures.err
     c.end.ensures.journal c.end.ensures.whole c.end.ensures.none
 

@@ -13,7 +13,7 @@ items-init g c = c.requires.begins
 pub carry_out-requires-clause-stands : goal.carry_out-requires-clause-stands
 carry_out-requires-clause-stands g c =
     gone-stands c.args.items.now c.items.item-index c.items.invariant
-    (subst IsAccepted c.accepted.ensures c.program-program.ensures.accepted)
+    (subst IsAccepted c.accepted.ensures c.know.ensures.accepted)
     (ledger-standing c.requires.stands c.requires.ledger)
 
 pub carry_out-requires-clause-room : goal.carry_out-requires-clause-room
@@ -25,7 +25,7 @@ carry_out-requires-clause-room g c =
     take_more items n i c.items-test.true ∙ ap (λ (x : ScriptItem). take n items ++ x ∷ []) (sym c.item-item.is)
     in
     gone-room items n c.items.invariant
-    (subst IsAccepted c.accepted.ensures c.program-program.ensures.accepted)
+    (subst IsAccepted c.accepted.ensures c.know.ensures.accepted)
     (ledger-standing c.requires.stands c.requires.ledger) c.requires.numbers c.requires.accounts i c.requires.size
     more
 

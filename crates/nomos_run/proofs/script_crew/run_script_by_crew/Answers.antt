@@ -61,7 +61,7 @@ returns-clause-runs g c =
     course-run c.run_course-course.result c.into_last-way.result.0.walk c.end.result c.into_last-way.result.1
     (c.run_course-course.ensures ∙ ap opening (c.in-Ok-new.ensures.ok ∙ c.new-course.ensures))
     (c.as_slice-items.ensures ∙ c.items.ensures.items)
-    c.program-program.ensures.accepted
+    c.know.ensures.accepted
     (subst (λ (l : LedgerState). StandsNamed a l) c.empty-from.ensures.empty
     (ledger-standing (c.empty-from.ensures.stands a) c.know_ledger.ensures))
     c.into_last-way.ensures.ok c.into_last-way.ensures.err c.end.ensures.journal c.end.ensures.whole

@@ -11,12 +11,12 @@ loop-at-preserved c =
     let inv = c.loop-at.invariant in
     let within : at < length cells = omega (arith, c.len-at-end.ensures, inv.len) in
     record {
-      len = ap length c.put.ensures.now ∙ length-set cells at None ∙ inv.len;
+      len = ap length c.empty_at.ensures.now ∙ length-set cells at None ∙ inv.len;
       empty = λ place before.
-          ap (λ (cs : List Cell). cell_at cs place) c.put.ensures.now ∙ empty-more cells at within inv.empty place
+          ap (λ (cs : List Cell). cell_at cs place) c.empty_at.ensures.now ∙ empty-more cells at within inv.empty place
           before;
-      seats = c.put.ensures.seats ∙ inv.seats;
-      marked = c.put.ensures.marked ∙ inv.marked;
+      seats = c.empty_at.ensures.seats ∙ inv.seats;
+      marked = c.empty_at.ensures.marked ∙ inv.marked;
     }
 
 pub returns-clause-empty : goal.returns-clause-empty

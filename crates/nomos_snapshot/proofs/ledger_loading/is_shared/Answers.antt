@@ -4,7 +4,7 @@ use Rattle.nomos_snapshot.proofs.ledger_loading.is_shared.Goals as goal
 
 pub returns-in-Some : goal.returns-in-Some
 returns-in-Some g c =
-    shared-name c.args.modes.now c.args.name c.in-Some.t c.is_of_mode_s.result c.program-program.ensures.accepted
+    shared-name c.args.modes.now c.args.name c.in-Some.t c.is_of_mode_s.result c.know.ensures.accepted
     c.requires c.in-Some.ensures c.is_of_mode_s.ensures
 
 pub returns-in-None : goal.returns-in-None

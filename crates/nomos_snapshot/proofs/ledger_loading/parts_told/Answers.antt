@@ -7,7 +7,7 @@ use Rattle.nomos_snapshot.proofs.ledger_loading.parts_told.Goals as goal
 
 pub returns-then-has_wide_list-clause-err : goal.returns-then-has_wide_list-clause-err
 returns-then-has_wide_list-clause-err c = λ other.
-    wide-loads c.program-program.ensures.accepted c.in_ok-gathering.ensures.ok
+    wide-loads c.know.ensures.accepted c.in_ok-gathering.ensures.ok
     (c.has_wide_list.ensures c.if-has_wide_list.true)
 
 pub returns-clause-ok : goal.returns-clause-ok

@@ -14,7 +14,7 @@ returns-in-None-clause-told c =
     c.loop-line.at
     c.loop-line.stand
     (subst (λ (p : ProgramLists). NamesAreShort p) c.program-program.ensures.program
-    c.lists-lists.ensures.program.names)
+    c.know.ensures.program.names)
     c.loop-line.invariant.0 c.in-Some.ensures none
 
 pub loop-line-preserved : goal.loop-line-preserved

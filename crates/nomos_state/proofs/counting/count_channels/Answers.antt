@@ -10,10 +10,10 @@ use Rattle.nomos_state.specs.declared.span.Span.{Span}
 use Rattle.nomos_state.proofs.CountLemmas.{count-end, count-skip, count-step, none-by, none-far, so_far}
 use Rattle.nomos_state.proofs.counting.count_channels.Goals as goal
 
-pub returns-in_default : goal.returns-in_default
-returns-in_default c p there =
+pub returns-in_default-clause-moves : goal.returns-in_default-clause-moves
+returns-in_default-clause-moves c p there =
     count-end 0 p c.args.tallies.now c.args.tallies.now 0 (λ some. absurd (omega arith))
-    (λ v is. absurd (subst (λ (s : Option Span). HasVariable s v) c.in_default.is (c.span.ensures p there v is)))
+    (λ v is. absurd (subst (λ (s : Option Span). HasVariable s v) c.in_default.is (c.requires.spans p there v is)))
     (moves-still c.args.tallies.now nothing (so_far 0 0 p) (λ d n. sym (none-far 0 p d n)))
 
 pub loop-variable-init : goal.loop-variable-init
@@ -29,7 +29,7 @@ loop-variable-init c = record {
 }
 
 pub exchange-requires : goal.exchange-requires
-exchange-requires c = subst (IsStrictlySortedBy nat_cmp) (sym c.loop-variable.invariant.order) c.requires
+exchange-requires c = subst (IsStrictlySortedBy nat_cmp) (sym c.loop-variable.invariant.order) c.requires.order
 
 pub loop-variable-preserved : goal.loop-variable-preserved
 loop-variable-preserved c = record {
@@ -46,7 +46,7 @@ loop-variable-preserved c = record {
       none-by (bound_to w p.channels)
       (λ some.
       c.next_variable-variable.ensures.none p there w over below
-      (subst (λ (s : Option Span). HasVariable s w) c.in-Some.is (c.span.ensures p there w some))))
+      (subst (λ (s : Option Span). HasVariable s w) c.in-Some.is (c.requires.spans p there w some))))
       c.args.tallies.now c.exchange.new.self
       (count-step low p c.args.tallies.now c.loop-variable.tallies c.exchange.new.self v c.bound-name.result is.above
       (c.bound-name.ensures.name p there) (is.moves p there) c.exchange.ensures);
@@ -55,14 +55,14 @@ loop-variable-preserved c = record {
 pub loop-variable-smaller : goal.loop-variable-smaller
 loop-variable-smaller c = omega (arith, c.if-variable-span.false, c.next_variable-variable.ensures.over)
 
-pub returns-then-variable-span : goal.returns-then-variable-span
-returns-then-variable-span c p there =
+pub returns-then-variable-span-clause-moves : goal.returns-then-variable-span-clause-moves
+returns-then-variable-span-clause-moves c p there =
     let low = c.in-Some.span.low in
     let v = c.loop-variable.variable in
     let is = c.loop-variable.invariant in
     count-end low p c.args.tallies.now c.exchange.new.self (v + 1 - low) (λ some. c.bound-name.ensures.order p there)
     (λ w bound.
-    let within = subst (λ (s : Option Span). HasVariable s w) c.in-Some.is (c.span.ensures p there w bound) in
+    let within = subst (λ (s : Option Span). HasVariable s w) c.in-Some.is (c.requires.spans p there w bound) in
     (within.0, omega (arith, within.0, within.1, is.above, c.if-variable-span.true)))
     (count-step low p c.args.tallies.now c.loop-variable.tallies c.exchange.new.self v c.bound-name.result is.above
     (c.bound-name.ensures.name p there) (is.moves p there) c.exchange.ensures)

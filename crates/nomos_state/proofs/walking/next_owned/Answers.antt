@@ -11,7 +11,7 @@ pub returns : goal.returns
 returns c =
     let names = c.args.contents.now.names.now in
     let a = c.args.accepted.now in
-    names-next a c.program-program.ensures.accepted c.args.after (types_of names)
+    names-next a c.know.ensures.accepted c.args.after (types_of names)
     (types-in_order names c.requires.names_ascending)
     (option_and_then (typed_at names) c.first_owned.result)
     (sym (name-found (is_owned_over a.program c.args.after) names c.first_owned.result c.first_owned.ensures))

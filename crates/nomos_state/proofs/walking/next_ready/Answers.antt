@@ -13,6 +13,6 @@ returns g c =
     let s = g.S.Sight.state c.args.sight.now in
     let found = first-found (is_over c.args.after (is_ready_in a s)) h c.requires.holding c.first_ready.result
     c.first_ready.ensures in
-    ready-next a s c.program-program.ensures.accepted c.requires.typed c.args.after (state_of h).objects
+    ready-next a s c.know.ensures.accepted c.requires.typed c.args.after (state_of h).objects
     (ap (λ (t : State). t.objects) c.requires.state)
     (option_and_then (standing_at h) c.first_ready.result) (sym found) c.number_in.result c.number_in.ensures

@@ -5,7 +5,7 @@ use Rattle.nomos_tale.proofs.batch_tale.fire_all.Goals as goal
 pub step-requires-clause-numbers : goal.step-requires-clause-numbers
 step-requires-clause-numbers g c =
     on-numbers c.args.accepted.now c.args.limit c.firings._made c.args.watched.now.world c.firings.watched.world
-    c.program-program.ensures.accepted c.requires.may c.firings.invariant.on (omega arith)
+    c.know.ensures.accepted c.requires.may c.firings.invariant.on (omega arith)
 
 pub returns-in-Some-clause-end : goal.returns-in-Some-clause-end
 returns-in-Some-clause-end g c =

@@ -21,7 +21,7 @@ tell_batch-requires-clause-may g c =
     c.in_ok-passed.ensures
     in
     let accepted : IsAccepted before.accepted =
-    subst IsAccepted c.accepted.ensures c.program-program.ensures.accepted
+    subst IsAccepted c.accepted.ensures c.know.ensures.accepted
     in
     let room : HasItemRoom c.args.ledger (start_count (item.Batch under.batch ∷ [])) most =
     subst (λ (i : ScriptItem). HasItemRoom c.args.ledger (start_count (i ∷ [])) most) under.item c.requires.room

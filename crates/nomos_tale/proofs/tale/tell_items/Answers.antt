@@ -15,7 +15,7 @@ items-init g c =
 pub tell_item-requires-clause-stands : goal.tell_item-requires-clause-stands
 tell_item-requires-clause-stands g c =
     let a = c.args.accepted.now in
-    told-stands c.as_slice-items.result.now c.items.item-index c.items.invariant c.program-program.ensures.accepted
+    told-stands c.as_slice-items.result.now c.items.item-index c.items.invariant c.know.ensures.accepted
     (subst (λ (l : LedgerState). StandsFor a l) c.empty-ledger.ensures.empty (c.empty-ledger.ensures.stands a))
 
 pub tell_item-requires-clause-room : goal.tell_item-requires-clause-room
@@ -27,7 +27,7 @@ tell_item-requires-clause-room g c =
     let more : take (n + 1) items ≡ take n items ++ i ∷ [] =
     take_more items n i c.items-test.true ∙ ap (λ (x : ScriptItem). take n items ++ x ∷ []) (sym c.item-item.is)
     in
-    told-room items n c.items.invariant c.program-program.ensures.accepted
+    told-room items n c.items.invariant c.know.ensures.accepted
     (subst (λ (l : LedgerState). StandsFor a l) c.empty-ledger.ensures.empty (c.empty-ledger.ensures.stands a)) i
     (subst IsScriptSize (sym (c.as_slice-items.ensures ∙ c.items-2.ensures.items)) c.items-2.ensures.size) more
 

@@ -11,9 +11,9 @@ returns-in-Some-Run-clause-ok g c = λ third.
     let r = c.in-Some-Run in
     let kept = option_map (λ word. word.now) r.journal in
     let found = rw r.field-0-is at r.ensures.found in
-    if_ok-map c.run_due_by_crew.result _ _
+    if_ok-map c.script_due_by_crew.result _ _
     (λ d due. due-asked _ words (run r.field-0-0.now r.field-0-1.now r.workers r.steps kept) d found due)
-    (c.run_due_by_crew.ensures.ok r.field-0-0.now r.field-0-1.now r.workers r.steps kept third c.run_orders.ensures)
+    (c.script_due_by_crew.ensures.ok r.field-0-0.now r.field-0-1.now r.workers r.steps kept third c.run_orders.ensures)
 
 pub returns-in-Some-Run-clause-err : goal.returns-in-Some-Run-clause-err
 returns-in-Some-Run-clause-err g c = λ third.
@@ -21,9 +21,9 @@ returns-in-Some-Run-clause-err g c = λ third.
     let r = c.in-Some-Run in
     let kept = option_map (λ word. word.now) r.journal in
     let found = rw r.field-0-is at r.ensures.found in
-    if_err-map c.run_due_by_crew.result _ _
+    if_err-map c.script_due_by_crew.result _ _
     (λ part done. part-asked _ words (run r.field-0-0.now r.field-0-1.now r.workers r.steps kept) part found done)
-    (c.run_due_by_crew.ensures.err r.field-0-0.now r.field-0-1.now r.workers r.steps kept third c.run_orders.ensures)
+    (c.script_due_by_crew.ensures.err r.field-0-0.now r.field-0-1.now r.workers r.steps kept third c.run_orders.ensures)
 
 pub returns-in-Some-Pool-clause-ok : goal.returns-in-Some-Pool-clause-ok
 returns-in-Some-Pool-clause-ok g c = λ third.

@@ -11,7 +11,7 @@ returns-in-Some-clause-tells c =
     let told = c.args.told.now in
     let old = c.args.equalities.now in
     let new = c.are_alike.new.equalities in
-    let exact = name-exact told c.program-program.ensures.accepted.is_program c.args.name c.in-Some.own c.args.t
+    let exact = name-exact told c.know.ensures.accepted.is_program c.args.name c.in-Some.own c.args.t
     c.in-Some.ensures.0 in
     IfOk-weaker c.are_alike.result (Tells (amounts_in told) old.amounts new.amounts (AreAlikeIn told c.in-Some.own
     c.args.t))
@@ -21,4 +21,4 @@ returns-in-Some-clause-tells c =
 
 pub returns-in-None-clause-tells : goal.returns-in-None-clause-tells
 returns-in-None-clause-tells c =
-    name-none c.args.told.now c.program-program.ensures.accepted.is_program c.args.name c.args.t c.in-None.ensures
+    name-none c.args.told.now c.know.ensures.accepted.is_program c.args.name c.args.t c.in-None.ensures

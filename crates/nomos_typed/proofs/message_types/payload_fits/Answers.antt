@@ -62,7 +62,7 @@ sent_fits-requires-clause-sent c =
     let told = c.args.told.now in
     let (s, there) = c.requires.head in
     subst (λ (o : Option TypeId). IfSome o (IsTypeIn told)) (sym c.sent_by.ensures)
-    (sent-in c.program-program.ensures.accepted.is_program s c.args.head.now there c.args.message.now.to_client)
+    (sent-in c.know.ensures.accepted.is_program s c.args.head.now there c.args.message.now.to_client)
 
 pub amount_fits-requires : goal.amount_fits-requires
 amount_fits-requires c =
@@ -71,7 +71,7 @@ amount_fits-requires c =
     record {
       due =
           subst (λ (o : Option Amount). IfSome o (IsAmountOf (program_of told))) (sym c.due_by.ensures)
-          (due-in c.program-program.ensures.accepted.is_program s c.args.head.now there
+          (due-in c.know.ensures.accepted.is_program s c.args.head.now there
           c.args.message.now.to_client);
     }
 

@@ -15,31 +15,31 @@ pub has_plainly-requires-clause-kinds : goal.has_plainly-requires-clause-kinds
 has_plainly-requires-clause-kinds c =
     let known = c.requires.known in
     let at = c.in-Some.ensures (acceptance_of c.args.told.now) known.wanted known.are in
-    place-kinds c.program-program.ensures.accepted c.in-Some.place.now at.1
+    place-kinds c.know.ensures.accepted c.in-Some.place.now at.1
 
 pub has_plainly-requires-clause-lists : goal.has_plainly-requires-clause-lists
 has_plainly-requires-clause-lists c =
     let known = c.requires.known in
     let at = c.in-Some.ensures (acceptance_of c.args.told.now) known.wanted known.are in
-    place-lists c.program-program.ensures.accepted c.in-Some.place.now at.1
+    place-lists c.know.ensures.accepted c.in-Some.place.now at.1
 
 pub has_type-requires-clause-other : goal.has_type-requires-clause-other
 has_type-requires-clause-other c =
     let known = c.requires.known in
     let at = c.in-Some.ensures (acceptance_of c.args.told.now) known.wanted known.are in
-    place-offers c.program-program.ensures.accepted c.in-Some.place.now at.1
+    place-offers c.know.ensures.accepted c.in-Some.place.now at.1
 
 pub has_channels-requires-clause-types : goal.has_channels-requires-clause-types
 has_channels-requires-clause-types c =
     let known = c.requires.known in
     let at = c.in-Some.ensures (acceptance_of c.args.told.now) known.wanted known.are in
-    place-types c.program-program.ensures.accepted c.in-Some.place.now at.1
+    place-types c.know.ensures.accepted c.in-Some.place.now at.1
 
 pub returns-in-None-clause-tells : goal.returns-in-None-clause-tells
 returns-in-None-clause-tells c =
     let known = c.requires.known in
     let nothing = c.in-None.ensures (acceptance_of c.args.told.now) known.wanted known.are in
-    nowhere-placed c.program-program.ensures.accepted c.args.told.now.types.now c.args.process.now c.args.places.now
+    nowhere-placed c.know.ensures.accepted c.args.told.now.types.now c.args.process.now c.args.places.now
     known nothing
 
 pub returns-then-not-has_plainly-clause-tells : goal.returns-then-not-has_plainly-clause-tells
@@ -48,7 +48,7 @@ returns-then-not-has_plainly-clause-tells c =
     let place : Place = c.in-Some.place.now in
     let known = c.requires.known in
     let at = c.in-Some.ensures (acceptance_of c.args.told.now) known.wanted known.are in
-    let exact = placed-exact c.program-program.ensures.accepted place at.1 c.args.told.now.types.now p at.0 in
+    let exact = placed-exact c.know.ensures.accepted place at.1 c.args.told.now.types.now p at.0 in
     λ placed.
     not-true c.has_plainly.result c.if-not-has_plainly.true c.has_plainly.ensures (exact.1 placed).0
 
@@ -59,7 +59,7 @@ returns-then-not-branch-clause-tells c =
     let place : Place = c.in-Some.place.now in
     let known = c.requires.known in
     let at = c.in-Some.ensures (acceptance_of told) known.wanted known.are in
-    let exact = placed-exact c.program-program.ensures.accepted place at.1 told.types.now p at.0 in
+    let exact = placed-exact c.know.ensures.accepted place at.1 told.types.now p at.0 in
     let none = subst (λ (b : Bool). Tells (amounts_in told) c.args.equalities.now.amounts
     c.has_type.new.equalities.amounts (NameFits told p.offers place.offers) b) c.if-not-branch.true
     c.in_ok-has_type.ensures.tells in
@@ -73,7 +73,7 @@ returns-clause-tells c =
     let place : Place = c.in-Some.place.now in
     let known = c.requires.known in
     let at = c.in-Some.ensures (acceptance_of told) known.wanted known.are in
-    let exact = placed-exact c.program-program.ensures.accepted place at.1 told.types.now p at.0 in
+    let exact = placed-exact c.know.ensures.accepted place at.1 told.types.now p at.0 in
     let old = c.args.equalities.now in
     let mid = c.has_type.new.equalities in
     let new = c.has_channels.new.equalities in

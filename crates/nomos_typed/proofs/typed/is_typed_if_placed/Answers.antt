@@ -17,7 +17,7 @@ returns-then-not-both-clause-parts c = (
 
 pub returns-then-not-both-clause-typed : goal.returns-then-not-both-clause-typed
 returns-then-not-both-clause-typed c = λ placed.
-    let exact = parts-exact c.args.accepted.now c.program-program.ensures.accepted c.args.state.now c.requires.ordered
+    let exact = parts-exact c.args.accepted.now c.know.ensures.accepted c.args.state.now c.requires.ordered
     placed in (
       λ yes. absurd cc,
       λ typed.
@@ -48,7 +48,7 @@ returns-clause-parts c =
 
 pub returns-clause-typed : goal.returns-clause-typed
 returns-clause-typed c = λ placed.
-    let exact = parts-exact c.args.accepted.now c.program-program.ensures.accepted c.args.state.now c.requires.ordered
+    let exact = parts-exact c.args.accepted.now c.know.ensures.accepted c.args.state.now c.requires.ordered
     placed in
     let four = c.both.ensures.0 c.if-not-both.false in
     let names = c.all_three-names.ensures.0 four.0 in (

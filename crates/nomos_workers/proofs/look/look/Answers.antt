@@ -21,4 +21,4 @@ fire-requires-clause-numbers g c =
     (cases_lt (length w.firings) c.args.limit)
     in
     subst (λ (v : WorldState). HasNumbers v.state) (sym c.chosen_one.ensures.world)
-    (shop-numbers (shop_of a w c.args.limit) shop c.program-program.ensures.accepted room)
+    (shop-numbers (shop_of a w c.args.limit) shop c.know.ensures.accepted room)

@@ -11,7 +11,7 @@ firings-init g c = record {
 
 pub step-requires-clause-numbers : goal.step-requires-clause-numbers
 step-requires-clause-numbers g c =
-    made-numbers c.args.policy c.args.accepted.now c.program-program.ensures.accepted c.args.limit c.firings._made
+    made-numbers c.args.policy c.args.accepted.now c.know.ensures.accepted c.args.limit c.firings._made
     c.firings.chooser.last c.args.watched.now.world c.firings.watched.world c.requires.may c.firings.invariant.made
     (omega arith)
 

@@ -28,7 +28,7 @@ returns-clause-runs g c =
 
 pub returns-in-One-clause-pays : goal.returns-in-One-clause-pays
 returns-in-One-clause-pays g c under =
-    world-pays under c.program-program.ensures.accepted c.run_by.ensures.runs.runs.stands
+    world-pays under c.know.ensures.accepted c.run_by.ensures.runs.runs.stands
 
 pub returns-in-Some-clause-pays : goal.returns-in-Some-clause-pays
 returns-in-Some-clause-pays g c under =
@@ -36,8 +36,8 @@ returns-in-Some-clause-pays g c under =
     rw (c.into_world.ensures, c.end.ensures.world, c.watch.ensures.world, c.of-watched.ensures.world)
     c.requires.may.stands
     in
-    world-pays under c.program-program.ensures.accepted stands
+    world-pays under c.know.ensures.accepted stands
 
 pub returns-clause-pays : goal.returns-clause-pays
 returns-clause-pays g c under =
-    world-pays under c.program-program.ensures.accepted (returns-clause-runs g c).stands
+    world-pays under c.know.ensures.accepted (returns-clause-runs g c).stands

@@ -4,4 +4,4 @@ use Rattle.nomos_deeds.proofs.machine.Machine.ready.Goals as goal
 pub returns : goal.returns
 returns g c =
     looks-ready c.args.accepted.now (g.Self.Sight.state c.args.self.now) c.args.pid c.looks_ready.result
-    c.program-program.ensures.accepted c.requires c.looks_ready.ensures
+    c.know.ensures.accepted c.requires c.looks_ready.ensures

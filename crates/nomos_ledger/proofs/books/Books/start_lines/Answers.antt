@@ -11,30 +11,30 @@ loop-start-init g c = record {
 
 pub start_line-requires-clause-settled : goal.start_line-requires-clause-settled
 start_line-requires-clause-settled g c =
-    let accepted = rw c.accepted.ensures at c.program-program.ensures.accepted in
+    let accepted = rw c.accepted.ensures at c.know.ensures.accepted in
     so_far-settled accepted c.requires.settled c.requires.ledger c.loop-start.invariant.so_far
 
 pub start_line-requires-clause-ledger : goal.start_line-requires-clause-ledger
 start_line-requires-clause-ledger g c =
-    let accepted = rw c.accepted.ensures at c.program-program.ensures.accepted in
+    let accepted = rw c.accepted.ensures at c.know.ensures.accepted in
     so_far-named accepted c.requires.settled c.requires.ledger c.loop-start.invariant.so_far
 
 pub start_line-requires-clause-numbers : goal.start_line-requires-clause-numbers
 start_line-requires-clause-numbers g c =
-    let accepted = rw c.accepted.ensures at c.program-program.ensures.accepted in
+    let accepted = rw c.accepted.ensures at c.know.ensures.accepted in
     so_far-numbers accepted c.requires.settled c.requires.ledger c.loop-start.invariant.so_far c.loop-start-test.true
     c.requires.objects c.requires.names
 
 pub returns-in-Err-clause-starts : goal.returns-in-Err-clause-starts
 returns-in-Err-clause-starts g c =
-    let accepted = rw c.accepted.ensures at c.program-program.ensures.accepted in
+    let accepted = rw c.accepted.ensures at c.know.ensures.accepted in
     rw c.at_line.ensures
     (so_far-stops accepted c.requires.settled c.requires.ledger c.loop-start.invariant.so_far c.start-item.result
     c.in-Err.stop c.start_line.new.self.now c.loop-start-test.true c.start-item.is c.in-Err.ensures.starts)
 
 pub loop-start-preserved : goal.loop-start-preserved
 loop-start-preserved g c =
-    let accepted = rw c.accepted.ensures at c.program-program.ensures.accepted in
+    let accepted = rw c.accepted.ensures at c.know.ensures.accepted in
     record {
       so_far =
           so_far-push accepted c.requires.settled c.requires.ledger c.loop-start.invariant.so_far c.start-item.result

@@ -21,5 +21,5 @@ returns-clause-stands g c =
     let fits = subst (λ (n : ℕ). n < 2 ^ 64) (λ i. (c.self-inside.view_is i).books.now.deposits + c.args.units)
     c.in-Some.ensures.0 in
     rw (c.in_ok-deposit.ensures.ok, sum, c.from.ensures, c.from-2.ensures, c.unit.ensures)
-    (deposited-stands c.program-program.ensures.accepted {l = c.self.inside.books.now} c.self.invariant.ledger
+    (deposited-stands c.know.ensures.accepted {l = c.self.inside.books.now} c.self.invariant.ledger
     c.args.name.now c.args.units fits stands)

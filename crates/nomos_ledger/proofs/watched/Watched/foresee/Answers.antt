@@ -6,4 +6,4 @@ use Rattle.nomos_ledger.proofs.watched.Watched.foresee.Goals as goal
 pub foresee-requires-clause-typed : goal.foresee-requires-clause-typed
 foresee-requires-clause-typed g c =
     subst (IsTyped c.args.accepted.now) (sym c.state.ensures.state)
-    (world-typed c.program-program.ensures.accepted c.requires.stands)
+    (world-typed c.know.ensures.accepted c.requires.stands)

@@ -4,5 +4,5 @@ use Rattle.nomos_ledger.proofs.watched.Watched.lowest.Goals as goal
 
 pub returns-clause-lowest : goal.returns-clause-lowest
 returns-clause-lowest g c =
-    let accepted = c.program-program.ensures.accepted in
+    let accepted = c.know.ensures.accepted in
     next-of_all accepted (world-typed accepted c.requires.stands) c.next_ready.result c.next_ready.ensures.next

@@ -6,4 +6,4 @@ use Rattle.nomos_ledger.proofs.watched.Watched.next_ready.Goals as goal
 pub next_ready-requires-clause-typed : goal.next_ready-requires-clause-typed
 next_ready-requires-clause-typed g c =
     subst (IsTyped c.args.accepted.now) (sym c.state.ensures.state)
-    (world-typed c.program-program.ensures.accepted c.requires.stands)
+    (world-typed c.know.ensures.accepted c.requires.stands)

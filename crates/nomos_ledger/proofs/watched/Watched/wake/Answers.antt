@@ -6,4 +6,4 @@ use Rattle.nomos_ledger.proofs.watched.Watched.wake.Goals as goal
 pub wake_after-requires : goal.wake_after-requires
 wake_after-requires g c =
     subst (IsTyped c.args.accepted.now) (sym c.state.ensures.state)
-    (world-typed c.program-program.ensures.accepted c.requires)
+    (world-typed c.know.ensures.accepted c.requires)

@@ -7,7 +7,7 @@ pub fire-requires-clause-may : goal.fire-requires-clause-may
 fire-requires-clause-may g c =
     let stands = rw (← c.self.view_is) at c.requires.stands in
     let numbers = rw (← c.self.view_is) at c.requires.numbers in
-    may-fire c.program-program.ensures.accepted stands numbers
+    may-fire c.know.ensures.accepted stands numbers
 
 -- the process that fired
 one : (g : Over) (c : goal.After-note g)
@@ -27,39 +27,39 @@ pub returns-in-Fired-clause-ok : goal.returns-in-Fired-clause-ok
 returns-in-Fired-clause-ok g c =
     let stands = rw (← c.self.view_is) at c.requires.stands in
     rw (← c.self.view_is, c.in-Fired.is)
-    (has-fired c.program-program.ensures.accepted (one g c) c.self.inside.kept c.self.inside.starts stands
+    (has-fired c.know.ensures.accepted (one g c) c.self.inside.kept c.self.inside.starts stands
     c.self.invariant)
 
 pub returns-in-Fired-clause-stands : goal.returns-in-Fired-clause-stands
 returns-in-Fired-clause-stands g c =
     let stands = rw (← c.self.view_is) at c.requires.stands in
-    fired-stands c.program-program.ensures.accepted (one g c) c.self.inside.kept c.self.inside.starts stands
+    fired-stands c.know.ensures.accepted (one g c) c.self.inside.kept c.self.inside.starts stands
     c.self.invariant
 
 pub invariant_of-self-in-Fired : goal.invariant_of-self-in-Fired
 invariant_of-self-in-Fired g c =
     let stands = rw (← c.self.view_is) at c.requires.stands in
-    fired-under_way c.program-program.ensures.accepted (one g c) c.self.inside.kept c.self.inside.starts stands
+    fired-under_way c.know.ensures.accepted (one g c) c.self.inside.kept c.self.inside.starts stands
     c.self.invariant
 
 pub returns-in_err-reserve-clause-pays : goal.returns-in_err-reserve-clause-pays
 returns-in_err-reserve-clause-pays g c under =
     let stands = rw (← c.self.view_is) at c.requires.stands in
-    rw c.reserve.ensures.firings (world-pays under c.program-program.ensures.accepted stands)
+    rw c.reserve.ensures.firings (world-pays under c.know.ensures.accepted stands)
 
 pub returns-in_err-answer-clause-pays : goal.returns-in_err-answer-clause-pays
 returns-in_err-answer-clause-pays g c under =
     let stands = rw (← c.self.view_is) at c.requires.stands in
     rw (c.reserve.ensures.firings, c.in_err-answer.ensures.err)
-    (world-pays under c.program-program.ensures.accepted stands)
+    (world-pays under c.know.ensures.accepted stands)
 
 pub returns-in-Fired-clause-pays : goal.returns-in-Fired-clause-pays
 returns-in-Fired-clause-pays g c under =
-    world-pays under c.program-program.ensures.accepted (returns-in-Fired-clause-stands g c)
+    world-pays under c.know.ensures.accepted (returns-in-Fired-clause-stands g c)
 
 pub returns-in_default-answer-clause-pays : goal.returns-in_default-answer-clause-pays
 returns-in_default-answer-clause-pays g c under =
     let stands = rw (← c.self.view_is) at c.requires.stands in
     let faults = rw c.in_default-answer.is at c.in_ok-answer.ensures.ok in
     let same = faulted-same c.self.inside.books c.fire.new.self c.in_ok-answer.ensures.rest faults.1 in
-    rw (c.reserve.ensures.firings, same) (world-pays under c.program-program.ensures.accepted stands)
+    rw (c.reserve.ensures.firings, same) (world-pays under c.know.ensures.accepted stands)

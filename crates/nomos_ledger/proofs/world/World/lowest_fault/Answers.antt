@@ -5,13 +5,13 @@ use Rattle.nomos_ledger.proofs.world.World.lowest_fault.Goals as goal
 
 pub processes-init : goal.processes-init
 processes-init g c =
-    let typed = world-typed c.program-program.ensures.accepted c.requires in
+    let typed = world-typed c.know.ensures.accepted c.requires in
     no_fault-first c.args.accepted.now c.args.self.now.state typed.numbered
 
 pub processes-smaller : goal.processes-smaller
 processes-smaller g c =
     let s = c.args.self.now.state in
-    let typed = world-typed c.program-program.ensures.accepted c.requires in
+    let typed = world-typed c.know.ensures.accepted c.requires in
     let next = c.in-Some.ensures in
     let below : c.in-Some.pid < s.next_object =
     ready-below c.args.accepted.now s typed.numbered c.in-Some.pid next.ready

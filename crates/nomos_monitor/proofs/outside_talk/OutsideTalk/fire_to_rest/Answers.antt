@@ -14,7 +14,7 @@ loop-made-init g c = record {
 
 pub step-requires : goal.step-requires
 step-requires g c =
-    let accepted = subst (λ (v : TalkState). IsAccepted v.a) c.self.view_is c.program-program.ensures.accepted in
+    let accepted = subst (λ (v : TalkState). IsAccepted v.a) c.self.view_is c.know.ensures.accepted in
     let typed = subst (λ (v : TalkState). IsTyped v.a v.state) c.self.view_is c.self.invariant.talk.party.typed in
     record {
       numbers =

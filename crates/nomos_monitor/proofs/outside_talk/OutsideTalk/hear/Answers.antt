@@ -5,13 +5,13 @@ use Rattle.nomos_monitor.proofs.outside_talk.OutsideTalk.hear.Goals as goal
 
 pub hear-requires-clause-hearable : goal.hear-requires-clause-hearable
 hear-requires-clause-hearable g c =
-    message-hearable c.program-program.ensures.accepted (g.M.Sight.state c.self.inside.running.machine)
+    message-hearable c.know.ensures.accepted (g.M.Sight.state c.self.inside.running.machine)
     c.self.invariant.talk
 
 pub invariant_of-self : goal.invariant_of-self
 invariant_of-self g c = record {
   talk =
-      answer-talk c.program-program.ensures.accepted (g.M.Sight.state c.self.inside.running.machine)
+      answer-talk c.know.ensures.accepted (g.M.Sight.state c.self.inside.running.machine)
       (g.M.Sight.state c.hear.new.self.machine)
       c.self.inside.account c.hear.result c.hear.ensures.ok c.hear.ensures.err
       c.self.invariant.talk;
@@ -22,7 +22,7 @@ invariant_of-self g c = record {
 pub returns-clause-ends : goal.returns-clause-ends
 returns-clause-ends g c =
     rw (← c.self.view_is)
-    (answer-ends c.program-program.ensures.accepted (g.M.Sight.state c.self.inside.running.machine)
+    (answer-ends c.know.ensures.accepted (g.M.Sight.state c.self.inside.running.machine)
     (g.M.Sight.state c.hear.new.self.machine)
     c.self.inside.account c.hear.result c.hear.ensures.ok c.self.invariant.talk)
 

@@ -3,4 +3,4 @@ use Rattle.nomos_monitor.proofs.outside_talk.OutsideTalk.into_state.Goals as goa
 
 pub returns-clause-goes_on : goal.returns-clause-goes_on
 returns-clause-goes_on g c =
-    rw (← c.self.view_is) (goes-well c.program-program.ensures.accepted c.self.invariant.talk)
+    rw (← c.self.view_is) (goes-well c.know.ensures.accepted c.self.invariant.talk)

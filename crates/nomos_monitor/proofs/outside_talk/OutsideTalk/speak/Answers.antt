@@ -28,7 +28,7 @@ say-requires-clause-say g c =
 pub invariant_of-self : goal.invariant_of-self
 invariant_of-self g c = record {
   talk =
-      said-talk c.program-program.ensures.accepted (g.M.Sight.state c.self.inside.running.machine)
+      said-talk c.know.ensures.accepted (g.M.Sight.state c.self.inside.running.machine)
       (g.M.Sight.state c.say.new.self.machine) c.self.inside.account c.args.said.now c.say.result c.say.ensures.ok
       c.say.ensures.err c.self.invariant.talk;
   watched = c.say.ensures.watched;

@@ -8,7 +8,7 @@ invariant_of-self-2 g c =
     let marked = rw c.lowest.ensures.machine at c.in_ok-fire.ensures.marked in
     record {
       talk =
-          look-talk c.program-program.ensures.accepted c.in-Some.pid c.in_ok-fire.field-0 c.self.invariant.talk fires;
+          look-talk c.know.ensures.accepted c.in-Some.pid c.in_ok-fire.field-0 c.self.invariant.talk fires;
       watched = c.in_ok-fire.ensures.watched;
       unmarked = marked ∙ c.self.invariant.unmarked;
     }

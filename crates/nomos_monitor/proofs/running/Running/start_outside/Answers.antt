@@ -8,6 +8,6 @@ returns-clause-watched g c =
     let first_name = rw c.lowest.ensures.machine at c.next_name-first_name.ensures in
     let tells = none-quiet c.args.accepted.now (g.M.Sight.state c.args.self.now.machine) c.lowest.result
     c.is_none-quiet.result c.is_none-quiet.ensures c.lowest.ensures.lowest in
-    opened-covers c.program-program.ensures.accepted c.requires.may.typed c.in_ok-pid.ensures.typed opens.1
+    opened-covers c.know.ensures.accepted c.requires.may.typed c.in_ok-pid.ensures.typed opens.1
     (tells.0 c.if-not-quiet.false) c.awake_from.result c.in_ok-pid.pid c.next_name-first_name.result opens.0 first_name
     c.awake_from.ensures.woken c.awake_from.ensures.followed c.awake_from.ensures.noted

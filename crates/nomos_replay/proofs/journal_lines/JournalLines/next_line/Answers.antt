@@ -21,6 +21,6 @@ returns-in-None-2-clause-err c =
     let apart = rw c.in-Some-Whole.field-0-is at c.in-Some-Whole.ensures in
     let none = rw (c.in-None-2.is, c.unit.ensures) at c.in_ok-line-in-Some-Whole.ensures in (
       refl,
-      whole-none a.annotations.unit (small-unit c.program-program.ensures.accepted) c.args.self.now.lines _ _ apart
+      whole-none a.annotations.unit (small-unit c.know.ensures.accepted) c.args.self.now.lines _ _ apart
           none,
     )

@@ -1,15 +1,19 @@
 use Rattle.std.proofs.Common.{◌≢◌, ◌≤◌, ◌-◌, ℕ, Some, cond, refl, sym, ap, ◌∙◌, subst, arith}
-use Rattle.std.proofs.lemmas.Option.{MatchOption-at_some}
-use Rattle.nomos_ir.specs.Bindings.{bind}
+use Rattle.nomos_ir.specs.Bindings.{IsAscending, bind, bound_to}
+use Rattle.nomos_ir.proofs.BindingLaws.{bindings_of-ascending}
+use Rattle.nomos_machine.specs.State.{process_at}
+use Rattle.nomos_machine.specs.declared.object.Process.{Process}
 use Rattle.nomos_machine.specs.Revised.{with_channel}
 use Rattle.nomos_changes.specs.SmallChanges.{Becomes}
 use Rattle.nomos_slots.specs.Cells.{name_in}
 use Rattle.nomos_state.specs.Indexed.{Indexed, held_now, state_of}
 use Rattle.nomos_state.specs.Looked.{ProcessIsAt}
-use Rattle.nomos_state.specs.Objects.{channels_of}
+use Rattle.nomos_state.specs.Objects.{channels_of, entries_of}
+use Rattle.nomos_state.proofs.ChannelLemmas.{bound-in_channels}
 use Rattle.nomos_state.proofs.ChangingLemmas.{channels-become, channels-indexed}
 use Rattle.nomos_state.specs.declared.kept.Kept.TheVariants as kept
-use Rattle.nomos_state.proofs.ProcessLemmas.{spans-kept}
+use Rattle.nomos_state.proofs.ProcessLemmas.{not-none, spans-kept, told-there}
+use Rattle.nomos_state.proofs.LookLemmas.{process-stands}
 use Rattle.nomos_state.proofs.RebindLemmas.{channels-bound, other-test}
 use Rattle.nomos_state.proofs.SpanLemmas.{bound-spans}
 use Rattle.nomos_state.proofs.TogetherLemmas.{same-names}
@@ -18,10 +22,9 @@ use Rattle.nomos_state.proofs.inside.Inside.bind_channel.Goals as goal
 pub invariant_of-self : goal.invariant_of-self
 invariant_of-self c =
     let s = c.self.inside in
-    let place = c.in-Some.place in
-    let k = c.in-Some.before in
-    let at : ProcessIsAt (held_now s.contents) c.args.pid place k =
-    MatchOption-at_some _ _ (place, k) c.in-Some.is c.process_at.ensures in
+    let place = c.in_ok-place.place in
+    let k = c.in_ok-place.before in
+    let at : ProcessIsAt (held_now s.contents) c.args.pid place k = c.in_ok-place.ensures in
     let others = λ (p w : ℕ) (other : p ≢ c.args.pid).
     c.bind.ensures.names p w
     ∙ ap (λ t. cond t (Some c.args.name) (name_in s.contents.channels.now p w))
@@ -43,10 +46,9 @@ invariant_of-self c =
 pub returns-clause-state : goal.returns-clause-state
 returns-clause-state c =
     let s = c.self.inside in
-    let place = c.in-Some.place in
-    let k = c.in-Some.before in
-    let at : ProcessIsAt (held_now s.contents) c.args.pid place k =
-    MatchOption-at_some _ _ (place, k) c.in-Some.is c.process_at.ensures in
+    let place = c.in_ok-place.place in
+    let k = c.in_ok-place.before in
+    let at : ProcessIsAt (held_now s.contents) c.args.pid place k = c.in_ok-place.ensures in
     let others = λ (p w : ℕ) (other : p ≢ c.args.pid).
     c.bind.ensures.names p w
     ∙ ap (λ t. cond t (Some c.args.name) (name_in s.contents.channels.now p w))
@@ -70,3 +72,26 @@ returns-clause-state c =
     (bind c.args.v c.args.name (channels_of s.contents.channels.now c.args.pid))
     (with_channel c.args.v c.args.name) (channels-bound s.contents.channels.now c.bind.new.self.now c.args.pid c.args.v
     c.args.name (c.bind.ensures.names c.args.pid)) refl)
+
+pub returns-clause-none : goal.returns-clause-none
+returns-clause-none c none =
+    let h = held_now c.self.inside.contents in
+    absurd (not-none _ h c.args.pid c.in_ok-place.place c.in_ok-place.before
+    (ap (λ (i : Indexed). i.state) c.self.view_is)
+    c.in_ok-place.ensures none)
+
+pub returns-clause-before : goal.returns-clause-before
+returns-clause-before c =
+    let h = held_now c.self.inside.contents in
+    told-there (λ (p : Process). bound_to c.args.v.0 p.channels) _ h c.args.pid c.in_ok-place.place c.in_ok-place.before
+    (ap (λ (i : Indexed). i.state) c.self.view_is)
+    c.in_ok-place.ensures c.get-bound.result
+    (c.get-bound.ensures ∙ sym (bound-in_channels h.cells c.args.pid c.args.v.0))
+
+pub returns-clause-order : goal.returns-clause-order
+returns-clause-order c p there =
+    let h = held_now c.self.inside.contents in
+    let at = ap (λ (s : Indexed). process_at s.state c.args.pid) c.self.view_is ∙ there in
+    let stands = process-stands h c.self.invariant.now c.args.pid p at in
+    subst (λ (q : Process). IsAscending q.channels) (sym stands.is)
+    (bindings_of-ascending (entries_of h.cells c.args.pid))

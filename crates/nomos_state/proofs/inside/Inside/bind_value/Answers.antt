@@ -1,4 +1,4 @@
-use Rattle.std.proofs.Common.{refl, subst}
+use Rattle.std.proofs.Common.{refl, ap, subst}
 use Rattle.std.proofs.lemmas.Option.{MatchOption-at_some}
 use Rattle.nomos_ir.specs.Bindings.{bind}
 use Rattle.nomos_ir.proofs.BindingLaws.{bind-ascending}
@@ -8,7 +8,7 @@ use Rattle.nomos_state.specs.Indexed.{Indexed, held_now, state_of}
 use Rattle.nomos_state.specs.Looked.{ProcessIsAt, values_at}
 use Rattle.nomos_state.specs.Objects.{AscendsIf, ValueRow}
 use Rattle.nomos_state.proofs.ChangingLemmas.{values-become, values-indexed}
-use Rattle.nomos_state.proofs.ProcessLemmas.{ascends-kept}
+use Rattle.nomos_state.proofs.ProcessLemmas.{ascends-kept, not-none}
 use Rattle.nomos_state.proofs.inside.Inside.bind_value.Goals as goal
 
 pub bind_in-requires-clause-order : goal.bind_in-requires-clause-order
@@ -52,3 +52,9 @@ returns-clause-ok c =
     c.self.view_is
     (values-become s c.self.invariant c.args.pid place k at c.bind_in.new.values row c.in_ok-bind_in.ensures.ok order
     c.bind_in.ensures.marked c.bind_in.ensures.room (with_value c.args.v c.args.x) refl)
+
+pub returns-clause-none : goal.returns-clause-none
+returns-clause-none c none =
+    let h = held_now c.self.inside.contents in
+    absurd (not-none _ h c.args.pid c.in-Some.place c.in-Some.before (ap (λ (i : Indexed). i.state) c.self.view_is)
+    (MatchOption-at_some _ _ (c.in-Some.place, c.in-Some.before) c.in-Some.is c.process_at.ensures) none)

@@ -8,7 +8,7 @@ use Rattle.nomos_state.specs.Objects.{AscendsIf, FitsLists, ListRow, ValueRow, p
 use Rattle.nomos_state.specs.declared.kept.KeptLists.{KeptLists}
 use Rattle.nomos_state.proofs.AgainLemmas.{on_any_err, resting-indexed, resting-marks, resting-state}
 use Rattle.nomos_state.proofs.ChangingLemmas.{rows-become, rows-indexed}
-use Rattle.nomos_state.proofs.ProcessLemmas.{ascends-kept, lists-kept}
+use Rattle.nomos_state.proofs.ProcessLemmas.{ascends-kept, lists-kept, not-none}
 use Rattle.nomos_state.proofs.RowLemmas.{bound-ascends}
 use Rattle.nomos_state.proofs.inside.Inside.change_lists.Goals as goal
 
@@ -167,3 +167,9 @@ returns-clause-ok c =
     c.keep_lists.ensures.now c.in_ok-bind_if.ensures.ok list_rows order c.change_row-kept.ensures.fits
     c.keep_lists.ensures.marked c.bind_if.ensures.marked its_marked less c.keep_lists.ensures.room has has_lists
     (with_list_change change) (ap held (sym left)))
+
+pub returns-clause-none : goal.returns-clause-none
+returns-clause-none c none =
+    let h = held_now c.self.inside.contents in
+    absurd (not-none _ h c.args.pid c.in-Some.place c.in-Some.before (ap (λ (i : Indexed). i.state) c.self.view_is)
+    (MatchOption-at_some _ _ (c.in-Some.place, c.in-Some.before) c.in-Some.is c.process_at.ensures) none)

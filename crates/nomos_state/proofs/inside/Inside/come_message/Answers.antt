@@ -1,4 +1,4 @@
-use Rattle.std.proofs.Common.{◌++◌, ◌∷◌, [], sym, ap, ◌∙◌, arith}
+use Rattle.std.proofs.Common.{◌++◌, ◌∷◌, ℕ, [], sym, ap, ◌∙◌, arith}
 use Rattle.nomos_machine.specs.declared.object.Object.TheVariants as object
 use Rattle.nomos_machine.specs.declared.object.Payload.{Payload}
 use Rattle.nomos_changes.specs.SmallChanges.{with_object}
@@ -17,7 +17,7 @@ invariant_of-self c =
       from = m.from;
       next = m.next;
       brings = c.in_ok-brings.brings;
-      purse = m.purse;
+      purse = c.of.result;
     } in
     let next = c.requires.number ∙ sym (ap (λ (i : Indexed). i.state.next_object) c.self.view_is) in
     let list_rows = c.push-3.ensures.now
@@ -43,7 +43,7 @@ returns-clause-ok c =
       from = m.from;
       next = m.next;
       brings = c.in_ok-brings.brings;
-      purse = m.purse;
+      purse = c.of.result;
     } in
     let next = c.requires.number ∙ sym (ap (λ (i : Indexed). i.state.next_object) c.self.view_is) in
     let list_rows = c.push-3.ensures.now
@@ -53,5 +53,6 @@ returns-clause-ok c =
     c.push-3.new.self c.push.ensures.marked c.push-2.ensures.marked c.push-3.ensures.marked next
     c.in_ok-brings.ensures.row
     c.push.ensures.now c.push-2.ensures.now list_rows m
-    (ap (λ (brought : Payload). object.Message (record m { payload = brought })) payload)
+    (ap (λ (brought : Payload). object.Message (record m { payload = brought; purse = c.of.result })) payload
+    ∙ ap (λ (dths : ℕ). object.Message (record m { purse = dths })) c.of.ensures)
     ∙ ap (λ (i : Indexed). with_object (object.Message m) i.state) c.self.view_is

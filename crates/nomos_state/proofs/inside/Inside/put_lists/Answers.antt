@@ -6,6 +6,7 @@ use Rattle.nomos_state.specs.Looked.{ProcessIsAt, lists_at, values_at}
 use Rattle.nomos_state.specs.Objects.{IsPotentialIf, ListRow, process_held}
 use Rattle.nomos_state.proofs.ChangingLemmas.{lists-become, lists-indexed}
 use Rattle.nomos_state.proofs.PotentialLemmas.{none-gone}
+use Rattle.nomos_state.proofs.ProcessLemmas.{not-none}
 use Rattle.nomos_state.proofs.inside.Inside.put_lists.Goals as goal
 
 pub keep_lists-requires : goal.keep_lists-requires
@@ -55,3 +56,9 @@ returns-clause-state c =
     c.keep_lists.ensures.marked c.replace-before.ensures.marked c.keep_lists.ensures.room
     c.replace-before.ensures.room (with_lists c.args.lists.items)
     (ap (λ (n : ℕ). with_lists (drop n c.args.lists.items) held) (sym c.kept_lists-kept.ensures.gone)))
+
+pub returns-clause-none : goal.returns-clause-none
+returns-clause-none c none =
+    let h = held_now c.self.inside.contents in
+    absurd (not-none _ h c.args.pid c.in-Some.place c.in-Some.before (ap (λ (i : Indexed). i.state) c.self.view_is)
+    (MatchOption-at_some _ _ (c.in-Some.place, c.in-Some.before) c.in-Some.is c.process_at.ensures) none)

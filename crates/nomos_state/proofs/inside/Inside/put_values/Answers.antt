@@ -1,4 +1,4 @@
-use Rattle.std.proofs.Common.{◌≡◌, ◌≤◌, ◌-◌, refl, subst, arith}
+use Rattle.std.proofs.Common.{◌≡◌, ◌≤◌, ◌-◌, refl, ap, subst, arith}
 use Rattle.std.proofs.lemmas.Option.{MatchOption-at_some}
 use Rattle.nomos_ir.specs.Bindings.{bindings_of}
 use Rattle.nomos_changes.specs.SmallChanges.{Becomes, with_values}
@@ -7,6 +7,7 @@ use Rattle.nomos_state.specs.Looked.{ProcessIsAt, lists_at}
 use Rattle.nomos_state.specs.Objects.{AscendsIf, ValueRow}
 use Rattle.nomos_state.proofs.ChangingLemmas.{own_rows, rows-become, rows-indexed, same_lists}
 use Rattle.nomos_state.proofs.RowLemmas.{map-ascends}
+use Rattle.nomos_state.proofs.ProcessLemmas.{not-none}
 use Rattle.nomos_state.proofs.inside.Inside.put_values.Goals as goal
 
 pub keep_order-requires : goal.keep_order-requires
@@ -63,3 +64,9 @@ returns-clause-state c =
     (own_rows s c.self.invariant c.args.pid place k at).1 c.keep_order.ensures.marked c.replace-before.ensures.marked
     refl less c.keep_order.ensures.room has has_lists
     (with_values c.args.values.items) refl)
+
+pub returns-clause-none : goal.returns-clause-none
+returns-clause-none c none =
+    let h = held_now c.self.inside.contents in
+    absurd (not-none _ h c.args.pid c.in-Some.place c.in-Some.before (ap (λ (i : Indexed). i.state) c.self.view_is)
+    (MatchOption-at_some _ _ (c.in-Some.place, c.in-Some.before) c.in-Some.is c.process_at.ensures) none)

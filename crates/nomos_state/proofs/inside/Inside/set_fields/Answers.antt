@@ -1,20 +1,20 @@
 use Rattle.std.proofs.Common.{◌≡◌, ◌∙◌, sym, ap, subst}
-use Rattle.std.proofs.lemmas.Option.{MatchOption-at_some}
+use Rattle.nomos_deeds.specs.SeenObjects.{seen_process}
 use Rattle.nomos_changes.specs.SmallChanges.{Becomes, with_fields}
 use Rattle.nomos_state.specs.Indexed.{Indexed, held_now, state_of}
 use Rattle.nomos_state.specs.Looked.{ProcessIsAt, lists_at, values_at}
 use Rattle.nomos_state.specs.Objects.{kept_of, process_held}
 use Rattle.nomos_state.specs.declared.kept.KeptProcess.{KeptProcess}
 use Rattle.nomos_state.proofs.ChangingLemmas.{fields-become, fields-indexed}
+use Rattle.nomos_state.proofs.ProcessLemmas.{not-none, told-there}
 use Rattle.nomos_state.proofs.inside.Inside.set_fields.Goals as goal
 
 pub invariant_of-self : goal.invariant_of-self
 invariant_of-self c =
     let s = c.self.inside in
-    let place = c.in-Some.place in
-    let k = c.in-Some.before in
-    let at : ProcessIsAt (held_now s.contents) c.args.fields.pid place k =
-    MatchOption-at_some _ _ (place, k) c.in-Some.is c.process_at.ensures in
+    let place = c.in_ok-place.place in
+    let k = c.in_ok-place.before in
+    let at : ProcessIsAt (held_now s.contents) c.args.fields.pid place k = c.in_ok-place.ensures in
     let next = c.of-next.result in
     let again : next ≡ kept_of c.args.fields k.span k.ascends (record { gone = k.gone; potential = k.potential }) =
     c.of-next.ensures ∙ ap (kept_of c.args.fields k.span k.ascends) c.lists.ensures in
@@ -26,10 +26,9 @@ invariant_of-self c =
 pub returns-clause-state : goal.returns-clause-state
 returns-clause-state c =
     let s = c.self.inside in
-    let place = c.in-Some.place in
-    let k = c.in-Some.before in
-    let at : ProcessIsAt (held_now s.contents) c.args.fields.pid place k =
-    MatchOption-at_some _ _ (place, k) c.in-Some.is c.process_at.ensures in
+    let place = c.in_ok-place.place in
+    let k = c.in_ok-place.before in
+    let at : ProcessIsAt (held_now s.contents) c.args.fields.pid place k = c.in_ok-place.ensures in
     let next = c.of-next.result in
     let again : next ≡ kept_of c.args.fields k.span k.ascends (record { gone = k.gone; potential = k.potential }) =
     c.of-next.ensures ∙ ap (kept_of c.args.fields k.span k.ascends) c.lists.ensures in
@@ -44,3 +43,18 @@ returns-clause-state c =
     (ap (λ (n : KeptProcess). process_held s.contents.channels.now c.args.fields.pid
     (values_at (held_now s.contents) place)
     (lists_at (held_now s.contents) place) n) (sym again)))
+
+pub returns-clause-none : goal.returns-clause-none
+returns-clause-none c none =
+    let h = held_now c.self.inside.contents in
+    absurd (not-none _ h c.args.fields.pid c.in_ok-place.place c.in_ok-place.before
+    (ap (λ (i : Indexed). i.state) c.self.view_is)
+    c.in_ok-place.ensures none)
+
+pub returns-clause-before : goal.returns-clause-before
+returns-clause-before c =
+    let h = held_now c.self.inside.contents in
+    let place = c.in_ok-place.place in
+    told-there seen_process _ h c.args.fields.pid place c.in_ok-place.before
+    (ap (λ (i : Indexed). i.state) c.self.view_is)
+    c.in_ok-place.ensures c.seen_process.result (c.seen_process.ensures h.cells (values_at h place) (lists_at h place))

@@ -1,13 +1,16 @@
 use Rattle.std.proofs.Common.{◌≢◌, ◌≤◌, ℕ, None, cond, refl, sym, ap, ◌∙◌, subst, arith}
 use Rattle.std.proofs.lemmas.Option.{MatchOption-at_some}
-use Rattle.nomos_ir.specs.Bindings.{unbind}
+use Rattle.nomos_ir.specs.Bindings.{bound_to, unbind}
+use Rattle.nomos_machine.specs.declared.object.Process.{Process}
 use Rattle.nomos_machine.specs.Revised.{without_channel}
 use Rattle.nomos_changes.specs.SmallChanges.{Becomes}
 use Rattle.nomos_slots.specs.Cells.{name_in}
 use Rattle.nomos_state.specs.Indexed.{Indexed, held_now, state_of}
 use Rattle.nomos_state.specs.Looked.{ProcessIsAt}
 use Rattle.nomos_state.specs.Objects.{channels_of}
+use Rattle.nomos_state.proofs.ChannelLemmas.{bound-in_channels}
 use Rattle.nomos_state.proofs.ChangingLemmas.{fewer-become, fewer-indexed}
+use Rattle.nomos_state.proofs.ProcessLemmas.{not-none, told-there}
 use Rattle.nomos_state.proofs.RebindLemmas.{channels-unbound, other-test}
 use Rattle.nomos_state.proofs.SpanLemmas.{unbound-fewer}
 use Rattle.nomos_state.proofs.TogetherLemmas.{same-names}
@@ -62,3 +65,19 @@ returns-clause-state c =
     (unbind c.args.v.0 (channels_of s.contents.channels.now c.args.pid))
     (without_channel c.args.v) (channels-unbound s.contents.channels.now c.unbind.new.self.now c.args.pid c.args.v
     (c.unbind.ensures.names c.args.pid)) refl)
+
+pub returns-clause-none : goal.returns-clause-none
+returns-clause-none c none =
+    let h = held_now c.self.inside.contents in
+    absurd (not-none _ h c.args.pid c.in-Some.field-0.0 c.in-Some.field-0.1
+    (ap (λ (i : Indexed). i.state) c.self.view_is)
+    (MatchOption-at_some _ _ (c.in-Some.field-0.0, c.in-Some.field-0.1) c.in-Some.is c.process_at.ensures) none)
+
+pub returns-clause-before : goal.returns-clause-before
+returns-clause-before c =
+    let h = held_now c.self.inside.contents in
+    told-there (λ (p : Process). bound_to c.args.v.0 p.channels) _ h c.args.pid c.in-Some.field-0.0 c.in-Some.field-0.1
+    (ap (λ (i : Indexed). i.state) c.self.view_is)
+    (MatchOption-at_some _ _ (c.in-Some.field-0.0, c.in-Some.field-0.1) c.in-Some.is c.process_at.ensures)
+    c.get-bound.result
+    (c.get-bound.ensures ∙ sym (bound-in_channels h.cells c.args.pid c.args.v.0))

@@ -21,7 +21,7 @@ count_fields-requires c =
     ∙ sym (ap (λ (i : Indexed). i.state.next_object) c.self.view_is)
     ∙ sym c.free_number-pid.ensures.next
     in
-    let channels = c.count_channels.ensures p
+    let channels = c.count_channels.ensures.moves p
     (ap (λ (u : State). process_at u pid) c.in_ok-come_process.ensures.ok
     ∙ process-come c.self.inside.inside.state pid p own c.free_number-pid.ensures.free)
     in
@@ -39,7 +39,7 @@ invariant_of-self-2 c =
     ∙ sym (ap (λ (i : Indexed). i.state.next_object) c.self.view_is)
     ∙ sym c.free_number-pid.ensures.next
     in
-    let channels = c.count_channels.ensures p
+    let channels = c.count_channels.ensures.moves p
     (ap (λ (u : State). process_at u pid) c.in_ok-come_process.ensures.ok
     ∙ process-come c.self.inside.inside.state pid p own c.free_number-pid.ensures.free)
     in

@@ -1,19 +1,17 @@
 use Rattle.std.proofs.Common.{refl}
-use Rattle.nomos_deeds.specs.SeenObjects.{seen_process}
-use Rattle.nomos_machine.specs.State.{process_at}
 use Rattle.nomos_changes.specs.SmallChanges.{with_list_change}
-use Rattle.nomos_state.proofs.KeepLemmas.{carries-tallied, marked-kept, seen-there}
+use Rattle.nomos_state.proofs.KeepLemmas.{carries-either, marked-kept}
 use Rattle.nomos_state.proofs.tallied.Tallied.change_lists.Goals as goal
 
 pub invariant_of-self-2 : goal.invariant_of-self-2
 invariant_of-self-2 c =
     let t = c.self.inside in
-    let s = t.inside.state in
-    let seen = seen-there seen_process (process_at s c.args.pid) c.in-Some.field-0 c.in-Some.ensures in
     record {
       now =
-          carries-tallied t.tallies s c.change_lists.new.self.state c.args.pid seen.0 (with_list_change c.args.change)
-          c.self.invariant.now seen.1 c.in_ok-change_lists.ensures.ok refl refl refl;
+          carries-either t.tallies t.inside.state c.change_lists.new.self.state c.args.pid
+          (with_list_change c.args.change)
+          c.self.invariant.now c.in_ok-change_lists.ensures.ok c.change_lists.ensures.none
+          (λ p. refl) (λ p. refl) (λ p. refl);
       marked =
           marked-kept t.was_exact t.was_lost _ _ _ _ c.self.invariant.marked refl c.change_lists.ensures.marked;
     }

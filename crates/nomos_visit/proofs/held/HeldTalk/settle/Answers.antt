@@ -6,7 +6,7 @@ use Rattle.nomos_visit.proofs.held.HeldTalk.settle.Goals as goal
 
 pub returns-in-Quiet-clause-held : goal.returns-in-Quiet-clause-held
 returns-in-Quiet-clause-held g c =
-    held-settled refl c.in_ok-made.ensures.same.0 c.program-program.ensures.accepted
+    held-settled refl c.in_ok-made.ensures.same.0 c.know.ensures.accepted
     c.state-state.ensures.talk.party.typed c.in_ok-made.ensures.ok refl
 
 pub returns : goal.returns
@@ -21,7 +21,7 @@ returns g c = record {
         c.in_default.not-Quiet c.in_ok-push_stopped.ensures;
   };
   held =
-      held-settled refl c.in_ok-made.ensures.same.0 c.program-program.ensures.accepted
+      held-settled refl c.in_ok-made.ensures.same.0 c.know.ensures.accepted
       c.state-state.ensures.talk.party.typed c.in_ok-made.ensures.ok refl;
   same = c.in_ok-made.ensures.same;
 }

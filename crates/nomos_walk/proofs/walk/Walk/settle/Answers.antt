@@ -20,4 +20,4 @@ pub returns-clause-stands : goal.returns-clause-stands
 returns-clause-stands g c = λ limit stands allowed.
     let program = c.accepted.ensures ∙ ap (λ (x : WalkState). x.accepted) c.self.view_is in
     c.leave.ensures.stands c.args.self.now.accepted limit
-    (subst IsAccepted program c.program-program.ensures.accepted) stands allowed
+    (subst IsAccepted program c.know.ensures.accepted) stands allowed
