@@ -91,6 +91,28 @@ def stars(count):
     return joined(lambda k: f"proc R s{k}(;) {{*}} : 1 = close;\n", count)
 
 
+def one_section(count):
+    """So many shared types over one section, which ends in each of them."""
+    ends = joined(lambda i: f"b{i} : down s{i}", count, " | ")
+    return f"type L l = &{{ {ends} }};\n" + joined(lambda i: f"type S s{i} = up l;\n", count)
+
+
+def shared_over(count, nodes):
+    """So many equal shared types over a section of so many nodes, and the parts of that, of HOPS nodes each."""
+    parts = nodes // HOPS
+    section = joined(
+        lambda i: f"type L l{i} = {'int -> ' * HOPS}{f'l{i + 1}' if i + 1 < parts else 'down s0'};\n", parts)
+    return section + joined(lambda i: f"type S s{i} = up l0;\n", count)
+
+
+def handed_references(count):
+    """So many calls, each of which hands one reference on as each of so many equal types."""
+    names = ", ".join(["a"] * count)
+    return (shared_over(count, 1500)
+            + f"proc T f(; {joined(lambda i: f'b{i}: s{i}', count, ', ')}) = close;\n"
+            + joined(lambda i: f"proc T t{i}(; a: s{i}) = call f(; {names});\n", count))
+
+
 def of_types():
     yield accepted("cycles of 2,300 and 2,301 nodes without amounts", cycles(2300, 2301, value))
     yield accepted("cycles of 2,300 and 2,301 nodes, each with the amount 1", cycles(2300, 2301, one))
@@ -115,6 +137,8 @@ def of_types():
     yield accepted("cycles of 1,500 and 1,501 nodes, asked from 1,000 places", asked_again(1500, 1501, 1000))
     yield refused("cycles of 4,700 nodes that differ at their ends", astray(4700), 1, "refused ProcType")
     yield accepted("four cycles of some 2,370 choices, each as each other", each_as_each([2370, 2369, 2367, 2363]))
+    yield accepted("200 shared types over one section, which ends in each of them", one_section(200))
+    yield Row("100 calls, each of one reference as 100 equal types", handed_references(100), None, [], 0, "bound")
 
 
 # ---- values
@@ -245,6 +269,34 @@ def around(count):
             f"{{ let x = f(n, {args}); call u(x - 1, {args};) }};\n")
 
 
+def dropping(length):
+    """The list is made, and dropped by a transaction that ends, by one with a fault, and by a contract that has it."""
+    made = long_list().replace("cat(900,", f"cat({length // 11},")
+    return (
+        CONCATENATED + "type S keeps = up list int -> down keeps;\n"
+        "proc S keep(xs: list int;) : keeps = accept; take self ys; detach; call keep(ys;);\n"
+        "proc R grow(k: int, xs: list {0} int;) : 1 ="
+        " if k < 1 { close } else { let ys = list k, xs; call grow(k - 1, ys;) };\n"
+        f"proc T drop(;) = {made}let xs = 1 :: l10; let e = list {{0}} int; spawn g = grow(20, e;); wait g; close;\n"
+        f"proc T give(; k: keeps) = {made}acquire k as x; put x l10; release x as y; close;\n"
+        f"proc T fail(;) = {made}let z = 1 / 0; close;\n")
+
+
+def dropped(length, batches, workers):
+    """So many batches that make and drop a list of this length."""
+    rounds = "exec u drop(;)\nexec u give(; k)\nexec u fail(;)\n" * (batches // 3)
+    name = f"{batches:,} batches that make and drop lists of {length:,}"
+    return Row(name + (f", by {workers} workers" if workers > 1 else ""), dropping(length),
+               "deposit u 0\nlet k = new u keep([];)\n" + rounds, ["--workers", str(workers)], 3, "line")
+
+
+def kept():
+    """Texts whose peaks of memory are compared: by how many megabytes lists may grow, of some batches and of more; for
+    each length of lists."""
+    for workers, margin in ((1, 1), (4, 8)):
+        yield margin, [[dropped(length, batches, workers) for batches in (10, 1000)] for length in (LIST, 0)]
+
+
 def of_values():
     once, script = "deposit u 0\nexec u t(;)\n", lambda *args: f"deposit u 0\nexec u t({', '.join(map(str, args))};)\n"
     yield fired("a list of 9,900 handed on by 20,000 calls", handing_on(), script(20000))
@@ -254,12 +306,14 @@ def of_values():
     yield fired("the list put and taken 4,000 times", echoing(), script(4000))
     yield fired("a call with 300 such lists, 40 times", wide(300), script(40))
     yield fired("4,700 variables with the list", tied("l10", 4700), once)
+    yield Row("250 variables with the list, by 4 workers", tied("l10", 250), once, ["--workers", "4"], 0, "line 2")
     yield fired("2,400 lists of one element more than the list", tied("1 :: l10", 2400), once)
     yield fired("the list in lists 60 deep, handed on by 20,000 calls", lists_of_lists(60), script(20000))
     yield fired("a list with potential of 9,900, taken apart 20,000 times", charged(), script(9900, 20000))
     yield fired("14,000 lists with potential made beside one of 9,900", beside(20), script(700))
     yield fired("1,500 lists with potential, one element put on each, 60 times", listed(1500), script(60))
     yield fired("4,900 variables bound, 200 times", bound(4900), script(200))
+    yield Row("2,000 variables bound, 20 times, by 4 workers", bound(2000), script(20), ["--workers", "4"], 0, "line 2")
     yield fired("a call with 3,000 values, 400 times", with_values(3000), script(400))
     yield fired("a call with 3,000 values, named from the last, 400 times", with_values(3000, True), script(400))
     yield fired("a function of 3,000 parameters that calls itself, 20 times", evaluated(3000), script(20))
