@@ -1,8 +1,8 @@
 -- Lemmas of classes that are joined.
-use Rattle.std.proofs.Common.{ℕ, List, [], ◌∷◌, ◌++◌}
+use Rattle.std.proofs.Common.{◌≡◌, ℕ, inl, inr, List, [], ◌∷◌, ◌++◌, refl, sym, subst, arith}
 use Rattle.std.proofs.lemmas.List.Elements.{Contains-append_left, Contains-push}
 use Rattle.nomos_ir.specs.declared.ids.TypeId.{TypeId}
-use Rattle.nomos_equality.specs.mirror.Linking.{Linked, same, along, back, through}
+use Rattle.nomos_equality.specs.mirror.Linking.{Linked, IsForest, JoinInPlace, same, along, back, through}
 
 -- what is linked stays linked by more pairs
 pub linked-more : (pairs more : List (TypeId × TypeId)) (s t : ℕ) → Linked pairs s t → Linked (pairs ++ more) s t
@@ -20,3 +20,28 @@ linked-joined pairs left right low high first second =
     through low left.0 high (back left.0 low (linked-more pairs more left.0 low first))
     (through left.0 right.0 high (along (left, right) (Contains-push pairs (left, right)))
     (linked-more pairs more right.0 high second))
+
+-- types that are linked to one are linked
+pub linked-least : (pairs : List (TypeId × TypeId)) (s t low high : ℕ) → low ≡ high → Linked pairs s low
+    → Linked pairs t high → Linked pairs s t
+linked-least pairs s t low high one first second =
+    through s low t first (back t low (subst (λ (n : ℕ). Linked pairs t n) (sym one) second))
+
+-- ---- more types
+
+-- nothing joins
+pub in_place-same : (xs : List ℕ) → JoinInPlace xs xs
+in_place-same xs i inside = inl (inside, refl)
+
+-- and each stays over one that is linked to it
+pub forest-more : (old new : List ℕ) (pairs : List (TypeId × TypeId)) → IsForest old pairs → JoinInPlace old new
+    → IsForest new pairs
+forest-more old new pairs forest more =
+    λ i inside. elim (more i inside) [
+      | inl h ↦
+          let at = forest i h.0 in (
+            omega (arith, at.0, h.1),
+            subst (λ (n : ℕ). Linked pairs i n) (sym h.1) at.1,
+          )
+      | inr h ↦ (omega (arith, h), subst (λ (n : ℕ). Linked pairs i n) (sym h) (same i))
+    ]

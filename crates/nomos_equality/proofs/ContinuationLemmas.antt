@@ -19,7 +19,7 @@ use Rattle.nomos_types.specs.Branches.{goes_by}
 use Rattle.nomos_types.specs.Synchronizing.{continuations, Reaches, further}
 use Rattle.nomos_equality.specs.declared.hop.Hop.{Hop}
 use Rattle.nomos_equality.specs.declared.hop.Hop.TheVariants as hop
-use Rattle.nomos_equality.specs.Paths.{part_by}
+use Rattle.nomos_equality.specs.Paths.{part_by, choices_of}
 use Rattle.nomos_equality.proofs.HeadLaws.{goes-label}
 use Rattle.nomos_equality.proofs.PathLaws.{part-below}
 use Rattle.nomos_equality.specs.Continuing.{continuation_by, behind_down, Continues, stops, continues}
@@ -69,6 +69,19 @@ labels-differ lists t n is_program there =
     let at = type_node-at lists t n there in
     subst (λ (m : TypeNode). AllDiffer (type_labels m)) at.2
     (All-at (λ (e : TypeAt). AllDiffer (type_labels e.node)) lists.types t at.0 is_program.labels.choices at.1)
+
+-- the numbers of the labels of a choice differ
+choice-differs : (n : TypeNode) → AllDiffer (type_labels n) → AllDiffer (map (λ b. b.label.0) (choices_of n))
+choice-differs (node.Plus bs) differ = differ
+choice-differs (node.With bs) differ = differ
+choice-differs n differ = λ i j d less inside. absurd (omega (arith, inside))
+
+-- after the label of a branch a choice of a program goes on as the branch says
+pub branch-goes : (lists : ProgramLists) (at : ℕ) (n : TypeNode) (branch : Branch) → IsProgram lists
+    → type_node lists at ≡ Some n → Contains (choices_of n) branch
+    → goes_by (choices_of n) branch.label ≡ Some branch.goes
+branch-goes lists at n branch is_program there among =
+    goes-own (choices_of n) (choice-differs n (labels-differ lists at n is_program there)) branch among
 
 -- ---- both forms
 

@@ -161,6 +161,7 @@ module _ (lists : ProgramLists) (a b : TypeId) (old s : Known) (before : HasComp
             (λ p among. λ n. pair-agrees n p.0 p.1 among) s.pairs (All-contains_itself s.pairs);
         amounts = λ p. (noted-somewhere p, λ there. stands-noted there.0.0 there.0.1 p there.1 there.2);
         once = gathered.once before.once;
+        free = before.free;
       }
 
 -- types that are known to be equal already

@@ -11,7 +11,7 @@ use Rattle.nomos_types.specs.Equality.{Agree, EqualShapes, no_amounts}
 use Rattle.nomos_types.specs.Unfolding.{IsUnfolding}
 use Rattle.nomos_equality.specs.declared.hop.Hop.{Hop}
 use Rattle.nomos_equality.specs.Answer.{StandOnce}
-use Rattle.nomos_equality.specs.Comparing.{Compared, HasCompared, IsFront, StaysCompared, FindsEqual}
+use Rattle.nomos_equality.specs.Comparing.{AreFree, Compared, HasCompared, IsFront, StaysCompared, FindsEqual}
 use Rattle.nomos_equality.specs.Paths.{PathLeads, ends, hops, StandAtEqualPaths, PaysNowhere}
 use Rattle.nomos_equality.specs.mirror.PairTables.{Puts}
 use Rattle.nomos_equality.proofs.ComparedLaws.{front-same}
@@ -19,7 +19,7 @@ use Rattle.nomos_equality.proofs.PathLaws.{before-name, behind-name}
 use Rattle.nomos_equality.proofs.VisitLemmas.{front-contains}
 
 -- agreement of types is agreement of what stands behind their names
-agree-before : (lists : ProgramLists) (x : Annotations) (n : ℕ) (a b u v : TypeId) → IsUnfolding lists a.0 u.0
+pub agree-before : (lists : ProgramLists) (x : Annotations) (n : ℕ) (a b u v : TypeId) → IsUnfolding lists a.0 u.0
     → IsUnfolding lists b.0 v.0 → Agree lists x n a b → Agree lists x n u v
 agree-before lists x zero a b u v left right agree = tt
 agree-before lists x (suc n) a b u v left right agree =
@@ -39,7 +39,7 @@ leads-before lists (h ∷ path) a u c n behind (hops _ _ _ s _ m first part rest
     (c, hops h path a s c m (behind-name lists a.0 u.0 m behind first) part rest, unfolds)
 
 -- no amounts stand at equal paths from a type that pays nowhere
-stands-nowhere : (lists : ProgramLists) (a b : TypeId) (q : Amount × Amount) {P : Type 0} → PaysNowhere lists a
+pub stands-nowhere : (lists : ProgramLists) (a b : TypeId) (q : Amount × Amount) {P : Type 0} → PaysNowhere lists a
     → StandAtEqualPaths lists a b q → P
 stands-nowhere lists a b q nowhere stand =
     let place = stand.place in
@@ -48,7 +48,7 @@ stands-nowhere lists a b q nowhere stand =
     absurd cc
 
 -- and what stands behind its name pays nowhere
-nowhere-behind : (lists : ProgramLists) (a u : TypeId) → IsUnfolding lists a.0 u.0 → PaysNowhere lists a
+pub nowhere-behind : (lists : ProgramLists) (a u : TypeId) → IsUnfolding lists a.0 u.0 → PaysNowhere lists a
     → PaysNowhere lists u
 nowhere-behind lists a u behind nowhere =
     λ path c n leads unfolds.
@@ -92,8 +92,9 @@ module _ (lists : ProgramLists) (a b u v : TypeId) (left_is : IsUnfolding lists 
   noted-before q among = subst (λ (l : List (Amount × Amount)). Contains l q) amounts among
 
   -- what is compared then
-  pub joined-compared : (added : Bool) → Puts old.types (u, v) new.types added → HasCompared lists new
-  joined-compared added puts =
+  pub joined-compared : new.free ≡ old.free → (added : Bool) → Puts old.types (u, v) new.types added
+      → HasCompared lists new
+  joined-compared free added puts =
       record {
         equal = put-equal added puts;
         amounts = λ q. (
@@ -103,6 +104,7 @@ module _ (lists : ProgramLists) (a b u v : TypeId) (left_is : IsUnfolding lists 
           λ there. kept-note q (stand-noted added puts there.0 q there.1 there.2),
         );
         once = subst StandOnce (sym amounts) before.once;
+        free = subst (λ (l : List (TypeId × TypeId)). All (AreFree lists) l) (sym free) before.free;
       }
 
   -- what was compared stays

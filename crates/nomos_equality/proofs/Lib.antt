@@ -3,6 +3,7 @@ pub mod BitLemmas
 pub mod ClassLemmas
 pub mod ComparedLaws
 pub mod EndLemmas
+pub mod FreeLemmas
 pub mod HeadLaws
 pub mod JoinLemmas
 pub mod KnownLemmas

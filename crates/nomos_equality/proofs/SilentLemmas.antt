@@ -1,5 +1,5 @@
 -- A walk through types at which no channel is sent, while it goes on and when it ends.
-use Rattle.std.proofs.Common.{◌≡◌, ◌<◌, ◌+◌, inl, inr, ℕ, [], get_or, Option, Some, None, slice_get, ap, subst, ◌∙◌, arith}
+use Rattle.std.proofs.Common.{◌≡◌, ◌<◌, ◌+◌, inl, inr, ℕ, get_or, Option, Some, None, slice_get, ap, subst, ◌∙◌, arith}
 use Rattle.std.proofs.lemmas.Bool.{cases_lt}
 use Rattle.std.proofs.lemmas.Option.{slice_get_within, slice_get-get_or}
 use Rattle.nomos_ir.specs.declared.ids.TypeId.{TypeId}
@@ -13,10 +13,10 @@ use Rattle.nomos_types.specs.Synchronizing.{Reaches, here, further}
 use Rattle.nomos_equality.proofs.PathLaws.{node-behind}
 use Rattle.nomos_equality.specs.declared.continuation_walk.Arrival.{Arrival}
 use Rattle.nomos_equality.specs.Carriers.{IsCarrier, CarriesChannel, CarriesNothing}
-use Rattle.nomos_equality.specs.mirror.Walk.{Visits, IsVisited, MeetsType, WalksTo, FollowsAll}
+use Rattle.nomos_equality.specs.mirror.Walk.{Visits, IsVisited, WalksTo, FollowsAll}
 use Rattle.nomos_equality.proofs.ContinuationLemmas.{labels-differ, continuation-hop, continues-reaches}
 use Rattle.nomos_equality.proofs.PassingLemmas.{none-past}
-use Rattle.nomos_equality.proofs.WalkLemmas.{AreReached, reached-begins, reached-walks, begins-visited, visited-walks, walks-get, one-visit, follows-walks, visit-reached}
+use Rattle.nomos_equality.proofs.WalkLemmas.{AreReached, reached-walks, visited-walks, walks-get, one-visit, follows-walks, visit-reached}
 
 -- a visit whose continuations are met, and at which no channel is sent
 pub record IsSilent (lists : ProgramLists) (visits : Visits) (at : ℕ) : Type 0 where

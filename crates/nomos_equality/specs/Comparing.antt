@@ -6,25 +6,33 @@ use Rattle.nomos_ir.specs.declared.lists.ProgramLists.{ProgramLists}
 use Rattle.nomos_types.specs.Equality.{EqualShapes}
 use Rattle.nomos_equality.specs.Answer.{StandOnce}
 use Rattle.nomos_equality.specs.Differences.{DifferAt}
-use Rattle.nomos_equality.specs.Paths.{StandAtEqualPaths}
+use Rattle.nomos_equality.specs.Paths.{StandAtEqualPaths, PaysNowhere}
 use Rattle.nomos_equality.specs.declared.equality.Comparison.{Comparison}
 use Rattle.nomos_equality.specs.declared.equality.Comparison.TheVariants as comparison
 
--- pairs of types that were compared, and the pairs of amounts that stand at equal paths of these
+-- pairs of types that were compared, the pairs of amounts that stand at equal paths of these, and pairs of types of
+-- equal shapes from which no amount is reached
 pub record Compared : Type 0 where
   pub types : List (TypeId × TypeId)
   pub amounts : List (Amount × Amount)
+  pub free : List (TypeId × TypeId)
 
 -- nothing
 abbrev pub nothing_compared : Compared
-nothing_compared = record { types = []; amounts = [] }
+nothing_compared = record { types = []; amounts = []; free = [] }
 
--- the types of each pair have equal shapes, and the amounts are, each once, those at equal paths of these pairs
+-- the two types have equal shapes, and no amount is reached from the first
+abbrev pub AreFree : ProgramLists → TypeId × TypeId → Type 0
+AreFree lists p = EqualShapes lists p.0 p.1 × PaysNowhere lists p.0
+
+-- the types of each pair have equal shapes, and the amounts are, each once, those at equal paths of these pairs; the
+-- pairs that are told to be free are so
 pub record HasCompared (lists : ProgramLists) (c : Compared) : Type 0 where
   pub equal : All (λ p. EqualShapes lists p.0 p.1) c.types
   pub amounts : (q : Amount × Amount) → Contains c.amounts q ↔
       ((p : TypeId × TypeId) × Contains c.types p × StandAtEqualPaths lists p.0 p.1 q)
   pub once : StandOnce c.amounts
+  pub free : All (AreFree lists) c.free
 
 -- what was there stays in front
 pub record IsFront {X : Type 0} (old new : List X) : Type 0 where

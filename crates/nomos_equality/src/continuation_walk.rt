@@ -1,7 +1,8 @@
 //! The walk through the continuations of a type.
 ghost use Rattle.std.specs.Prelude.{◌≡◌, ◌<◌, ◌^◌, [], length, slice_get, OnOk, IfOk, IfSome};
 ghost use Rattle.nomos_equality.specs.mirror.Walk.{IsWalkable, MeetsType, WalksTo, FollowsHop, FollowsEachLabel};
-ghost use Rattle.nomos_equality.specs.mirror.Walk.{StandsVisited, WasMetBy, FollowsAll, WayTo, VisitsAreInOrder};
+ghost use Rattle.nomos_equality.specs.declared.hop.Hop.TheVariants as hop;
+ghost use Rattle.nomos_equality.specs.mirror.Walk.{HasBranch, StandsVisited, WasMetBy, FollowsAll, WayTo, VisitsAreInOrder};
 
 use crate::continuations::continuation_by;
 use crate::hop::{Hop, Path};
@@ -10,6 +11,7 @@ use indexmap::IndexMap;
 use nomos_ir::ids::TypeId;
 use nomos_ir::items::Items;
 use nomos_ir::program::Program;
+use nomos_ir::type_node::Branch;
 use nomos_types::unfolding::unfold;
 use std::alloc::{AllocError, Global};
 
@@ -92,6 +94,25 @@ impl ContinuationWalk {
         }
     }
 
+    /// Meets the continuation of a visit by one of its branches.
+    fn follow_branch(
+        &mut self,
+        program: &Program,
+        number: usize,
+        at: TypeId,
+        branch: &Branch,
+    ) -> Result<(), AllocError>
+        requires walkable { IsWalkable program.now }
+        requires there { StandsVisited self.old.visits.entries number at.0 }
+        requires branch { HasBranch program.now at.0 branch.now }
+        ensures walks { OnOk result (WalksTo program.now self.old.visits.entries self.new.visits.entries) }
+        ensures follows { OnOk result
+            (FollowsHop program.now at.0 (hop.Label branch.now.label) self.new.visits.entries) }
+    {
+        let hop = Hop::Label(branch.label);
+        self.meet(program, branch.goes, Some(Arrival { visit: number, hop }))
+    }
+
     /// Meets the continuations of a visit by its labels.
     fn follow_labels(
         &mut self,
@@ -107,7 +128,7 @@ impl ContinuationWalk {
     {
         let branches = choices_of(program.node(at));
         for branch in branches {
-            self.follow(program, number, at, Hop::Label(branch.label))?;
+            self.follow_branch(program, number, at, branch)?;
         }
         Ok(())
     }

@@ -11,6 +11,7 @@ mod continuations;
 mod difference;
 pub mod equalities;
 pub mod equality;
+mod free_types;
 pub mod hop;
 mod known;
 pub mod node_parts;

@@ -2,7 +2,9 @@
 ghost use Rattle.std.specs.Prelude.{◌≡◌, ◌<◌, ◌^◌, [], length, slice_get, IsTrue, OnOk, IfOk, IfSome};
 ghost use Rattle.nomos_equality.specs.Paths.{PaysNowhere};
 ghost use Rattle.nomos_equality.specs.mirror.Reach.{IsVisited, WalksOn, MeetsPart, MeetsLabels, MeetsParts};
+ghost use Rattle.nomos_equality.specs.declared.hop.Hop.TheVariants as hop;
 ghost use Rattle.nomos_equality.specs.mirror.Search.{IsFormed};
+ghost use Rattle.nomos_equality.specs.mirror.Walk.{HasBranch};
 
 use crate::constructor::paid_by;
 use crate::hop::Hop;
@@ -10,6 +12,7 @@ use crate::node_parts::{choices_of, part_by};
 use indexmap::IndexSet;
 use nomos_ir::ids::TypeId;
 use nomos_ir::program::Program;
+use nomos_ir::type_node::Branch;
 use nomos_types::unfolding::unfold;
 use std::alloc::{AllocError, Global};
 
@@ -65,6 +68,21 @@ impl TypeWalk {
         }
     }
 
+    /// Meets the part of a visit by one of its branches.
+    fn follow_branch(
+        &mut self,
+        program: &Program,
+        at: TypeId,
+        branch: &Branch,
+    ) -> Result<(), AllocError>
+        requires formed { IsFormed program.now }
+        requires branch { HasBranch program.now at.0 branch.now }
+        ensures walks { OnOk result (WalksOn program.now self.old.visits.keys self.new.visits.keys) }
+        ensures meets { OnOk result (MeetsPart program.now at.0 (hop.Label branch.now.label) self.new.visits.keys) }
+    {
+        self.meet(program, branch.goes)
+    }
+
     /// Meets the parts of a visit by its labels.
     fn follow_labels(&mut self, program: &Program, at: TypeId) -> Result<(), AllocError>
         requires formed { IsFormed program.now }
@@ -74,7 +92,7 @@ impl TypeWalk {
     {
         let branches = choices_of(program.node(at));
         for branch in branches {
-            self.follow(program, at, Hop::Label(branch.label))?;
+            self.follow_branch(program, at, branch)?;
         }
         Ok(())
     }

@@ -1,7 +1,7 @@
 //! Types in classes, which are joined a pair at a time.
-ghost use Rattle.std.specs.Prelude.{◌≡◌, ◌≤◌, [], ◌∷◌, ◌++◌, IfOk};
+ghost use Rattle.std.specs.Prelude.{◌≡◌, ◌≤◌, [], ◌∷◌, ◌++◌, IfOk, IsTrue};
 ghost use Rattle.std.specs.List.{range_with_len};
-ghost use Rattle.nomos_equality.specs.mirror.Linking.{Linked, Joins};
+ghost use Rattle.nomos_equality.specs.mirror.Linking.{Linked, Joins, JoinInPlace};
 
 use crate::told_pairs::{ToldPairs, then};
 use nomos_ir::ids::TypeId;
@@ -36,7 +36,28 @@ fn in_place(alloc: Global, count: usize) -> Result<Vec<usize>, AllocError>
     (0..count).collect(alloc)
 }
 
+/// Makes room for so many numbers. Those that join are each in its own place.
+fn fill_in_place(above: &mut Vec<usize>, count: usize) -> Result<(), AllocError>
+    ensures { JoinInPlace above.old.items above.new.items }
+{
+    while above.len() < count {
+        let next = above.len();
+        above.push(next)?;
+    }
+    Ok(())
+}
+
 impl TypeClasses {
+    /// No types are there yet. It takes no memory.
+    pub(crate) fn empty(alloc: Global) -> TypeClasses
+        ensures { result ≡ [] }
+    {
+        TypeClasses {
+            above: Vec::new(alloc),
+            joined: ToldPairs::Nothing,
+        }
+    }
+
     /// So many types, each in a class of its own.
     pub(crate) fn new(alloc: Global, count: usize) -> Result<TypeClasses, AllocError>
         ensures { IfOk result (λ classes. classes ≡ []) }
@@ -45,6 +66,13 @@ impl TypeClasses {
             above: in_place(alloc, count)?,
             joined: ToldPairs::Nothing,
         })
+    }
+
+    /// Makes room for so many types. Those that join are each in a class of its own.
+    pub(crate) fn make_room(&mut self, count: usize) -> Result<(), AllocError>
+        ensures { self.new ≡ self.old }
+    {
+        fill_in_place(&mut self.above, count)
     }
 
     /// A type of the same class that is not greater, another one where there is such.
@@ -90,6 +118,16 @@ impl TypeClasses {
         ensures { self.new ≡ self.old ++ (left, right) ∷ [] }
     {
         self.joined = then(&self.joined, left, right);
+    }
+
+    /// Whether two types are known to be of one class.
+    pub(crate) fn are_one(&mut self, left: TypeId, right: TypeId) -> bool
+        ensures linked { IsTrue result → Linked self.old left.0 right.0 }
+        ensures same { self.new ≡ self.old }
+    {
+        let low = self.least(left.0 as usize);
+        let high = self.least(right.0 as usize);
+        low == high
     }
 
     /// Joins the classes of two types, and says whether they were two.

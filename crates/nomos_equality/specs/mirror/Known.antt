@@ -1,5 +1,5 @@
 -- A mirror of the code: what is gathered of types that are equal.
-use Rattle.std.specs.Prelude.{◌≡◌, ◌⊎◌, List, ◌++◌, Contains, Some, None}
+use Rattle.std.specs.Prelude.{◌≡◌, ◌⊎◌, List, [], ◌++◌, Contains, Some, None}
 use Rattle.nomos_ir.specs.declared.amount.Amount.{Amount}
 use Rattle.nomos_ir.specs.declared.ids.TypeId.{TypeId}
 use Rattle.nomos_ir.specs.declared.lists.ProgramLists.{ProgramLists}
@@ -13,9 +13,13 @@ use Rattle.nomos_equality.specs.Comparing.{Compared, IsFront}
 use Rattle.nomos_equality.specs.Paths.{part_by, paid_by, StandAtEqualPaths}
 use Rattle.nomos_equality.specs.mirror.Search.{IsMet, IsAt, HasNodes, Follows, HasForm}
 
--- what is known to be compared
+-- what is known to be compared, beside pairs from which no amount is reached
+abbrev pub compared_beside : Known → List (TypeId × TypeId) → Compared
+compared_beside k free = record { types = k.pairs; amounts = k.amounts; free = free }
+
+-- what is known to be compared, by itself
 abbrev pub compared_by : Known → Compared
-compared_by k = record { types = k.pairs; amounts = k.amounts }
+compared_by k = compared_beside k []
 
 -- the types are one of the pairs
 abbrev pub Among : List (TypeId × TypeId) → TypeId → TypeId → Type 0

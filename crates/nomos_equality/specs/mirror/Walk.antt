@@ -3,6 +3,7 @@ use Rattle.std.specs.Prelude.{◌≡◌, ◌<◌, ℕ, List, [], ◌∷◌, ◌+
 use Rattle.nomos_ir.specs.declared.ids.Label.{Label}
 use Rattle.nomos_ir.specs.declared.ids.TypeId.{TypeId}
 use Rattle.nomos_ir.specs.declared.lists.ProgramLists.{ProgramLists}
+use Rattle.nomos_ir.specs.declared.type_node.Branch.{Branch}
 use Rattle.nomos_ir.specs.declared.type_node.TypeNode.{TypeNode}
 use Rattle.nomos_ir.specs.declared.type_node.TypeNode.TheVariants as node
 use Rattle.nomos_ir.specs.Nodes.{type_node}
@@ -14,6 +15,7 @@ use Rattle.nomos_equality.specs.Comparing.{Compared, FindsEqual}
 use Rattle.nomos_equality.specs.declared.hop.Hop.{Hop}
 use Rattle.nomos_equality.specs.declared.hop.Hop.TheVariants as hop
 use Rattle.nomos_equality.specs.Continuing.{continuation_by}
+use Rattle.nomos_equality.specs.Paths.{choices_of}
 use Rattle.nomos_equality.specs.declared.continuation_walk.Arrival.{Arrival}
 
 -- the types that were met, behind their names, each with the hop by which it was met first
@@ -60,6 +62,10 @@ StandsVisited visits number at = (from : Option Arrival) × (slice_get visits nu
 -- at this number stands a visit that was met by this hop
 abbrev pub WasMetBy : Visits → ℕ → Option Arrival → Type 0
 WasMetBy visits number from = (at : ℕ) × (slice_get visits number ≡ Some (at, from))
+
+-- the branch is one of the choice that stands there
+abbrev pub HasBranch : ProgramLists → ℕ → Branch → Type 0
+HasBranch lists at branch = (n : TypeNode) × (type_node lists at ≡ Some n) × Contains (choices_of n) branch
 
 -- the continuation of a type by a hop is met
 abbrev pub FollowsHop : ProgramLists → ℕ → Hop → Visits → Type 0

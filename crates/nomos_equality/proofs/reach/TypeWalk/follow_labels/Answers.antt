@@ -18,22 +18,22 @@ pub loop-branch-preserved : goal.loop-branch-preserved
 loop-branch-preserved c =
     record {
       walks = walks-through c.args.program.now c.args.self.now.visits.keys c.loop-branch.self.visits.keys
-          c.follow.new.self.visits.keys c.loop-branch.invariant.walks c.in_ok-follow.ensures.walks;
+          c.follow_branch.new.self.visits.keys c.loop-branch.invariant.walks c.in_ok-follow_branch.ensures.walks;
       followed = λ k d inside.
           elim (cases_lt k c.loop-branch.branch-index) [
             | inl less ↦
                 part-walks c.args.program.now c.args.at.0
                 (hop.Label (get_or c.choices_of-branches.result.now k d).label) c.loop-branch.self.visits.keys
-                c.follow.new.self.visits.keys c.in_ok-follow.ensures.walks
+                c.follow_branch.new.self.visits.keys c.in_ok-follow_branch.ensures.walks
                 (c.loop-branch.invariant.followed k d less)
             | inr more ↦
                 let at : c.loop-branch.branch-index ≡ k = omega arith in
                 let one = get_or_default c.choices_of-branches.result.now c.loop-branch.branch-index
                 (record { label = record { 0 = 0 }; goes = record { 0 = 0 } }) d c.loop-branch-test.true in
                 subst (λ (n : ℕ). MeetsPart c.args.program.now c.args.at.0
-                (hop.Label (get_or c.choices_of-branches.result.now n d).label) c.follow.new.self.visits.keys) at
+                (hop.Label (get_or c.choices_of-branches.result.now n d).label) c.follow_branch.new.self.visits.keys) at
                 (subst (λ (e : Branch). MeetsPart c.args.program.now c.args.at.0 (hop.Label e.label)
-                c.follow.new.self.visits.keys) one c.in_ok-follow.ensures.meets)
+                c.follow_branch.new.self.visits.keys) one c.in_ok-follow_branch.ensures.meets)
           ];
     }
 
