@@ -1,7 +1,6 @@
 -- What is read off the ways in which a call ends.
-use Rattle.std.proofs.Common.{◌≡◌, ◌≢◌, ◌∙◌, ◌⊎◌, inl, inr, ℕ, List, Bool, true, false, Option, Some, None, Ok, refl, sym, ap, subst, arith}
-use Rattle.std.specs.List.{list_all}
-use Rattle.std.specs.Prelude.{IsSome, if◌then◌else◌}
+use Rattle.std.proofs.Common.{◌≡◌, ◌≢◌, ◌∙◌, ◌⊎◌, inl, inr, ℕ, List, Option, Some, None, Ok, refl, sym, ap, subst, arith}
+use Rattle.std.specs.Prelude.{IsSome}
 use Rattle.nomos_accept.specs.AcceptedText.{IsAcceptedAs}
 use Rattle.nomos_base.specs.Sink.{with_end}
 use Rattle.nomos_answers.specs.DueLines as lines
@@ -13,15 +12,15 @@ use Rattle.nomos_answers.specs.Written as writing
 use Rattle.nomos_answers.specs.Written.{HasWrittenOut, with_text}
 use Rattle.nomos_legal.specs.Ledger.{LedgerState}
 use Rattle.nomos_legal.specs.Passage.{Passage}
-use Rattle.nomos_legal.specs.declared.journal.Entry.{Entry}
 use Rattle.nomos_legal.specs.declared.journal.Journal.{Journal}
-use Rattle.nomos_report.specs.Reported.{is_well, report_of, run_status}
+use Rattle.nomos_report.specs.Reported.{report_of, run_status}
 use Rattle.nomos_snapshot.specs.Loading.{Loads}
 use Rattle.nomos_snapshot.specs.Saving.{Saves}
 use Rattle.nomos_snapshot.specs.Text.{snapshot_text}
 use Rattle.nomos_top.specs.Outcome as outcome
 use Rattle.nomos_top.specs.Outcome.{IsUnaccepted}
 use Rattle.nomos_top.specs.Seen.{IsDone}
+use Rattle.nomos_top.proofs.StatusLaws.{done-not, done-status}
 use Rattle.nomos_types.specs.Acceptance.{Acceptance, IsAccepted}
 use Rattle.nomos_words.specs.Words.{check}
 use Rattle.nomos_carrying.specs.CarryDue as carrying
@@ -36,19 +35,6 @@ use Rattle.nomos_carry.proofs.OneDueLaws.{saves-text}
 use Rattle.nomos_carry.proofs.TaskLaws.{one-task}
 
 -- ---- statuses
-
-done-cases : (well : Bool) → IsDone (if well then 0 else 3)
-done-cases true = inl refl
-done-cases false = inr refl
-
--- the status of what was carried out
-pub done-status : (entries : List Entry) → IsDone (run_status entries)
-done-status entries = done-cases (list_all (λ e. is_well e.end) entries)
-
--- a status with which something was done is no other one
-pub done-not : (status n : ℕ) → IsDone status → n ≢ 0 → n ≢ 3 → status ≢ n
-done-not status n (inl is) zero three same = zero (sym same ∙ is)
-done-not status n (inr is) zero three same = three (sym same ∙ is)
 
 -- the statuses of what was not done
 abbrev pub IsUndone : ℕ → Type 0

@@ -8,11 +8,9 @@ use Rattle.nomos_answers.specs.Resumes as resumes
 use Rattle.nomos_answers.specs.Resumes.{IsNoLedger}
 use Rattle.nomos_answers.specs.RunsDue.{HasRunFrom, usual_orders}
 use Rattle.nomos_answers.specs.SnapshotLines.{unloaded_line, unsaved_line}
-use Rattle.nomos_legal.proofs.OneJournalLaws.{follows-one_journal}
 use Rattle.nomos_legal.specs.Ledger.{LedgerState}
 use Rattle.nomos_legal.specs.Passage.{Passage}
 use Rattle.nomos_legal.specs.declared.journal.Journal.{Journal}
-use Rattle.nomos_machine.specs.declared.policy.Policy.TheVariants.{First}
 use Rattle.nomos_report.specs.Reported.{report_of, run_status}
 use Rattle.nomos_script.proofs.ReadingLaws.{reads_once, reads_without_syntax, syntax_once}
 use Rattle.nomos_script.specs.ScriptReading.{IsSyntaxAt, ReadsAs}
@@ -23,6 +21,7 @@ use Rattle.nomos_snapshot.specs.Saving as saving
 use Rattle.nomos_snapshot.specs.Saving.{Saves}
 use Rattle.nomos_snapshot.specs.Text.{snapshot_text}
 use Rattle.nomos_snapshot.specs.declared.error.SaveError.{SaveError}
+use Rattle.nomos_top.proofs.OneDueLaws.{saves-one, usual-one}
 use Rattle.nomos_types.specs.Acceptance.{Acceptance, IsAccepted}
 use Rattle.nomos_carrying.specs.CarryDue as carrying
 use Rattle.nomos_carrying.specs.CarryDue.{BeginsFrom, HasCarried, IsCarryDue, IsNumbersDue, TellsNumbers}
@@ -35,18 +34,6 @@ OneDue status out next other also later =
     ((status ≡ other) × (out ≡ also) × (next ≡ later)) ⊎ ((status ≡ 5) ⊎ (other ≡ 5))
 
 -- ---- what is saved
-
-pub saves-one : {a : Acceptance} {l : LedgerState} {x y : Result (List ℕ) SaveError} → Saves a l x → Saves a l y
-    → x ≡ y
-saves-one (saving.numbers high) (saving.numbers high2) = refl
-saves-one (saving.numbers high) (saving.too_long low long) = absurd (high low)
-saves-one (saving.numbers high) (saving.saved low short) = absurd (high low)
-saves-one (saving.too_long low long) (saving.numbers high) = absurd (high low)
-saves-one (saving.too_long low long) (saving.too_long low2 long2) = refl
-saves-one (saving.too_long low long) (saving.saved low2 short) = absurd (omega (arith, long, short))
-saves-one (saving.saved low short) (saving.numbers high) = absurd (high low)
-saves-one (saving.saved low short) (saving.too_long low2 long) = absurd (omega (arith, long, short))
-saves-one (saving.saved low short) (saving.saved low2 short2) = refl
 
 -- the text that is saved is the ledger's
 saves-is : {a : Acceptance} {l : LedgerState} (text : List ℕ) {x : Result (List ℕ) SaveError} → Saves a l x
@@ -155,14 +142,6 @@ no_ledgers-one {a} accepted (Some x) (Some y) alike s u status out other also is
     no_ledger-one accepted x y alike status out other also
     (subst (λ (i : Input). IsNoLedger a i status out) (sym same) one)
     (subst (λ (i : Input). IsNoLedger a i other also) (sym also_same) two)
-
--- one journal, one row of passages and one last ledger
-pub usual-one : {a : Acceptance} {first : LedgerState} {items : List ScriptItem} {journal other : Journal}
-    {ps qs : List Passage} {last m : LedgerState} → HasRunFrom a first items usual_orders journal ps last
-    → HasRunFrom a first items usual_orders other qs m → (journal ≡ other) × (ps ≡ qs) × (last ≡ m)
-usual-one one two =
-    follows-one_journal First one.tells two.tells (one.limit ∙ sym two.limit) (one.follows First refl)
-    (two.follows First refl)
 
 carried-one : {a : Acceptance} → IsAccepted a → (x y : Option Input) (s u : Input) → AreAlike x y → s.text ≡ u.text
     → (journal other : Journal) (ps qs : List Passage) (last m : LedgerState) → HasCarried a x s journal ps last

@@ -20,7 +20,8 @@ use Rattle.nomos_types.specs.Acceptance.{Acceptance, IsAccepted}
 use Rattle.nomos_carrying.proofs.RenumberedLaws.{renumbered-one}
 use Rattle.nomos_carrying.specs.Renumbered as renumbering
 use Rattle.nomos_carrying.specs.Renumbered.{IsRenumberDue, IsRenumbered}
-use Rattle.nomos_carry.proofs.OneDueLaws.{OneDue, ledger-tells, no_ledger-loads, no_ledger-one, saves-one}
+use Rattle.nomos_top.proofs.OneDueLaws.{saves-one}
+use Rattle.nomos_carry.proofs.OneDueLaws.{OneDue, ledger-tells, no_ledger-loads, no_ledger-one}
 
 -- ---- what is answered of a ledger
 

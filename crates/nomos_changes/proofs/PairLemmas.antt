@@ -10,7 +10,7 @@ use Rattle.nomos_ir.specs.declared.ids.VarId.{VarId}
 
 module _ {X : Type 0} (v : VarId) (x : X) where
   -- how many pairs at the front have lower variables
-  abbrev below : List (VarId × X) → ℕ
+  abbrev pub below : List (VarId × X) → ℕ
   below b = prefix_len (λ e. nat_lt e.0.0 v.0) b
 
   -- the map after a binding, by where the variable stands beside the first one

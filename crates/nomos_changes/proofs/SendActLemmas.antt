@@ -141,7 +141,8 @@ module _ (a : Acceptance) (s : State) (p : Process) where
     pub is : change ≡ takes a s p message (standing_at next becomes)
 
   pub received-is : (c : Chan) (number : ℕ) (where_to : Into) (next : CodeId) (vs : List Value) (change : Change)
-      → act_change a s p vs (act.Receive c number where_to next) ≡ Some change
+      → act_change a s p vs (act.Receive (record { channel = c; message = number; into = where_to; next = next }))
+      ≡ Some change
       → IsReceived c number where_to next change
   received-is c number where_to next vs change made = at (message_at s.objects number) refl made
     where

@@ -6,6 +6,9 @@ use Rattle.nomos_ir.specs.Value.{Value}
 use Rattle.nomos_types.specs.Acceptance.{Acceptance}
 use Rattle.nomos_deeds.specs.Acting.{CanAct}
 use Rattle.nomos_deeds.specs.Acts.{another}
+use Rattle.nomos_deeds.specs.declared.act.Acquire.{Acquire}
+use Rattle.nomos_deeds.specs.declared.act.Act.TheVariants as act
+use Rattle.nomos_deeds.specs.declared.act.Release.{Release}
 use Rattle.nomos_machine.specs.Change.{Change, made}
 use Rattle.nomos_machine.specs.Deeds.{with_other}
 use Rattle.nomos_machine.specs.Objects.{object_number, process_of}
@@ -17,10 +20,8 @@ use Rattle.nomos_machine.specs.declared.object.Process.{Process}
 use Rattle.nomos_machine.proofs.PreservationLaws.{process_at-there}
 use Rattle.nomos_machine.proofs.PutLaws.{object_at-other}
 use Rattle.nomos_changes.specs.Performing.{made_by_act}
-use Rattle.nomos_changes.specs.Sharings.{acquire_act, acquired, acquiring, provides_linear, provides_shared, release_act, released, releasing, with_two}
+use Rattle.nomos_changes.specs.Sharings.{acquired, acquiring, provides_linear, provides_shared, released, releasing, with_two}
 use Rattle.nomos_changes.specs.SmallChanges.{Becomes, with_process}
-use Rattle.nomos_changes.specs.declared.sharing.Acquire.{Acquire}
-use Rattle.nomos_changes.specs.declared.sharing.Release.{Release}
 use Rattle.nomos_changes.proofs.MadeLemmas.{can-acts, one-some, same-state}
 
 -- ---- a process beside the one that acts
@@ -90,11 +91,11 @@ another-there p (Some q) go c is = at (q.pid == p.pid) refl is
     at false apart is = (q, refl, eqb-false q.pid p.pid apart, is)
 
 module _ (a : Acceptance) (s : State) (pid : ℕ) (vs : List Value) where
-  pub acquire-made : (acquire : Acquire) (t : State) → CanAct a s pid vs (acquire_act acquire)
+  pub acquire-made : (acquire : Acquire) (t : State) → CanAct a s pid vs (act.Acquire acquire)
       → ((p q : Process) → process_at s pid ≡ Some p → process_at s acquire.other ≡ Some q → q.pid ≢ p.pid
-      → t ≡ acquired acquire s pid p q) → t ≡ made_by_act a s pid vs (acquire_act acquire)
+      → t ≡ acquired acquire s pid p q) → t ≡ made_by_act a s pid vs (act.Acquire acquire)
   acquire-made acquire t can does =
-      let acts = can-acts a s pid vs (acquire_act acquire) can in
+      let acts = can-acts a s pid vs (act.Acquire acquire) can in
       let p = acts.process in
       let beside = another-there p (process_at s acquire.other) (λ q. Some (acquires_from a s p acquire q)) acts.change
       acts.changes in
@@ -105,11 +106,11 @@ module _ (a : Acceptance) (s : State) (pid : ℕ) (vs : List Value) where
       ∙ ap (made s) (one-some _ _ beside.3)
       ∙ sym acts.makes
 
-  pub release-made : (release : Release) (t : State) → CanAct a s pid vs (release_act release)
+  pub release-made : (release : Release) (t : State) → CanAct a s pid vs (act.Release release)
       → ((p q : Process) → process_at s pid ≡ Some p → process_at s release.other ≡ Some q → q.pid ≢ p.pid
-      → t ≡ released release s pid p q) → t ≡ made_by_act a s pid vs (release_act release)
+      → t ≡ released release s pid p q) → t ≡ made_by_act a s pid vs (act.Release release)
   release-made release t can does =
-      let acts = can-acts a s pid vs (release_act release) can in
+      let acts = can-acts a s pid vs (act.Release release) can in
       let p = acts.process in
       let beside = another-there p (process_at s release.other) (λ q. Some (releases_to a s p release q)) acts.change
       acts.changes in

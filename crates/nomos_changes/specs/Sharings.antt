@@ -1,23 +1,12 @@
 -- What becomes of two processes where one acquires the other, or releases it.
 use Rattle.std.specs.Prelude.{ℕ, Some, None}
 use Rattle.nomos_ir.specs.declared.mode.Mode.TheVariants as mode
-use Rattle.nomos_deeds.specs.declared.act.Act.{Act}
-use Rattle.nomos_deeds.specs.declared.act.Act.TheVariants as act
+use Rattle.nomos_deeds.specs.declared.act.Acquire.{Acquire}
+use Rattle.nomos_deeds.specs.declared.act.Release.{Release}
 use Rattle.nomos_machine.specs.Revised.{standing_at, with_channel, without_channel}
 use Rattle.nomos_machine.specs.State.{State}
 use Rattle.nomos_machine.specs.declared.object.Process.{Process}
 use Rattle.nomos_changes.specs.SmallChanges.{with_name, with_process}
-use Rattle.nomos_changes.specs.declared.sharing.Acquire.{Acquire}
-use Rattle.nomos_changes.specs.declared.sharing.Release.{Release}
-
--- the acts
-abbrev pub acquire_act : Acquire → Act
-acquire_act acquire =
-    act.Acquire acquire.variable acquire.shared acquire.other acquire.onward acquire.goes acquire.next
-
-abbrev pub release_act : Release → Act
-release_act release =
-    act.Release release.variable release.reference release.shared release.other release.onward release.next
 
 -- two processes became others
 abbrev pub with_two : State → ℕ → Process → ℕ → Process → State

@@ -16,7 +16,7 @@ pub mod pairs;
 pub mod parts;
 pub mod performing;
 mod plain_fields;
-mod process_lists;
+pub mod process_lists;
 mod revising;
 mod revision;
 mod sharing;

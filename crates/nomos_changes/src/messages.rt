@@ -8,9 +8,9 @@ ghost use Rattle.nomos_changes.specs.Performing.{made_by_act};
 ghost use Rattle.nomos_changes.specs.Sendings.{brought_by};
 
 use crate::acts_alone::the_value;
-use crate::messaging::{Receive, Send, hear_end, receive_message, send_message};
+use crate::messaging::{hear_end, receive_message, send_message};
 use crate::parts::Parts;
-use nomos_deeds::act::Sending;
+use nomos_deeds::act::{Receive, Send, Sending};
 use nomos_ir::ids::{CodeId, VarId};
 use nomos_ir::value::Values;
 use nomos_machine::object::Payload;
@@ -41,10 +41,8 @@ pub(crate) fn act_send<P: Parts>(
 ) -> Result<(), AllocError>
     requires room { 8 ≤ P.room parts.old }
     requires numbers { HasNumbers (P.state parts.old) }
-    ensures ok { (a : Acceptance) → CanAct a (P.state parts.old) pid values
-        (act.Send send.channel send.sending send.goes send.next)
-        → OnOk result (P.state parts.new ≡ made_by_act a (P.state parts.old) pid values
-        (act.Send send.channel send.sending send.goes send.next)) }
+    ensures ok { (a : Acceptance) → CanAct a (P.state parts.old) pid values (act.Send send)
+        → OnOk result (P.state parts.new ≡ made_by_act a (P.state parts.old) pid values (act.Send send)) }
     ensures err { OnErr result (P.state parts.new ≡ P.state parts.old) }
     ensures room { P.room parts.old ≤ P.room parts.new + 7 }
     ensures marked { P.marked parts.new ≡ P.marked parts.old }
@@ -63,10 +61,8 @@ pub(crate) fn act_receive<P: Parts>(
     receive: Receive,
 ) -> Result<(), AllocError>
     requires room { 8 ≤ P.room parts.old }
-    ensures ok { (a : Acceptance) (vs : List Meaning) → CanAct a (P.state parts.old) pid vs
-        (act.Receive receive.channel receive.message receive.into receive.next)
-        → OnOk result (P.state parts.new ≡ made_by_act a (P.state parts.old) pid vs
-        (act.Receive receive.channel receive.message receive.into receive.next)) }
+    ensures ok { (a : Acceptance) (vs : List Meaning) → CanAct a (P.state parts.old) pid vs (act.Receive receive)
+        → OnOk result (P.state parts.new ≡ made_by_act a (P.state parts.old) pid vs (act.Receive receive)) }
     ensures err { OnErr result (P.state parts.new ≡ P.state parts.old) }
     ensures room { P.room parts.old ≤ P.room parts.new + 7 }
     ensures frugal { IsFrugalInto receive.into → IsOk result }

@@ -17,30 +17,12 @@ ghost use Rattle.nomos_changes.specs.SmallChanges.{Becomes, with_process, withou
 
 use crate::parts::Parts;
 use crate::plain_fields::{earning, going_on, going_under, spending};
-use nomos_deeds::act::{Into, Sending};
+use nomos_deeds::act::{Into, Receive, Send, Sending};
 use nomos_deeds::sight::{SeenMessage, SeenPayload, SeenProcess, Sight};
 use nomos_ir::code_node::Chan;
-use nomos_ir::ids::{CodeId, TypeId, VarId};
+use nomos_ir::ids::{CodeId, VarId};
 use nomos_machine::object::{Message, Payload};
 use std::alloc::{AllocError, Global};
-
-/// A send: on which channel, what, at which type the channel goes on, and where the process does.
-#[derive(Clone, Copy, Debug)]
-pub struct Send {
-    pub channel: Chan,
-    pub sending: Sending,
-    pub goes: TypeId,
-    pub next: CodeId,
-}
-
-/// A receive: on which channel, which message, where what it brings goes, and where the process goes on.
-#[derive(Clone, Copy, Debug)]
-pub struct Receive {
-    pub channel: Chan,
-    pub message: u32,
-    pub into: Into,
-    pub next: CodeId,
-}
 
 // Whether the process provides the channel.
 fn is_own(channel: Chan) -> bool

@@ -7,9 +7,8 @@ use crate::acts_alone::{act_emit, act_revision, act_work};
 use crate::calling::{Call, act_call};
 use crate::leaving::{act_close, act_forward};
 use crate::messages::{act_receive, act_send, act_wait};
-use crate::messaging::{Receive, Send};
 use crate::parts::Parts;
-use crate::sharing::{Acquire, Release, act_acquire, act_release};
+use crate::sharing::{act_acquire, act_release};
 use crate::spawning::{Spawn, act_spawn};
 use nomos_deeds::act::Act;
 use nomos_ir::value::Values;
@@ -46,34 +45,8 @@ fn make<P: Parts>(
 {
     let Intent { pid, act, values } = intent;
     match act {
-        Act::Send {
-            channel,
-            sending,
-            goes,
-            next,
-        } => {
-            let send = Send {
-                channel,
-                sending,
-                goes,
-                next,
-            };
-            act_send(parts, alloc, pid, send, values)
-        }
-        Act::Receive {
-            channel,
-            message,
-            into,
-            next,
-        } => {
-            let receive = Receive {
-                channel,
-                message,
-                into,
-                next,
-            };
-            act_receive(parts, alloc, pid, receive)
-        }
+        Act::Send(send) => act_send(parts, alloc, pid, send, values),
+        Act::Receive(receive) => act_receive(parts, alloc, pid, receive),
         Act::Wait {
             variable,
             message,
@@ -82,41 +55,11 @@ fn make<P: Parts>(
             act_wait(parts, pid, variable, message, next);
             Ok(())
         }
-        Act::Acquire {
-            variable,
-            shared,
-            other,
-            onward,
-            goes,
-            next,
-        } => {
-            let acquire = Acquire {
-                variable,
-                shared,
-                other,
-                onward,
-                goes,
-                next,
-            };
+        Act::Acquire(acquire) => {
             act_acquire(parts, accepted, pid, &values, acquire);
             Ok(())
         }
-        Act::Release {
-            variable,
-            reference,
-            shared,
-            other,
-            onward,
-            next,
-        } => {
-            let release = Release {
-                variable,
-                reference,
-                shared,
-                other,
-                onward,
-                next,
-            };
+        Act::Release(release) => {
             act_release(parts, accepted, pid, &values, release);
             Ok(())
         }

@@ -14,7 +14,7 @@ use nomos_machine::object::PotentialList;
 use std::alloc::{AllocError, Global};
 
 /// The list of a variable.
-pub(crate) fn list_of(lists: &[(VarId, PotentialList)], w: VarId) -> Option<&PotentialList>
+pub fn list_of(lists: &[(VarId, PotentialList)], w: VarId) -> Option<&PotentialList>
     ensures { option_copied result ≡ bound_to w.0 lists.now }
 {
     for pair in lists {
@@ -36,7 +36,7 @@ pub(crate) fn copy_list(list: &PotentialList) -> Result<PotentialList, AllocErro
 }
 
 /// A copy of variables with their lists.
-pub(crate) fn copy_lists(
+pub fn copy_lists(
     alloc: Global,
     lists: &[(VarId, PotentialList)],
 ) -> Result<Vec<(VarId, PotentialList)>, AllocError>

@@ -1,44 +1,22 @@
 //! Acts by which a contract that is shared is acquired, and released.
 ghost use Rattle.std.specs.Prelude.{◌≡◌, ◌≢◌, ◌+◌, ◌-◌, ◌^◌, ◌≤◌, ◌<◌, Some};
 ghost use Rattle.nomos_deeds.specs.Acting.{CanAct};
+ghost use Rattle.nomos_deeds.specs.declared.act.Act.TheVariants as act;
 ghost use Rattle.nomos_machine.specs.State.{process_at};
 ghost use Rattle.nomos_machine.specs.declared.object.Process.{Process};
 ghost use Rattle.nomos_changes.specs.Performing.{made_by_act};
 ghost use Rattle.nomos_changes.specs.Providers.{provides_as};
-ghost use Rattle.nomos_changes.specs.Sharings.{acquire_act, acquired, release_act, released};
+ghost use Rattle.nomos_changes.specs.Sharings.{acquired, released};
 ghost use Rattle.nomos_changes.specs.SmallChanges.{Becomes};
 
 use crate::parts::Parts;
 use crate::plain_fields::go_on;
+use nomos_deeds::act::{Acquire, Release};
 use nomos_deeds::sight::SeenProcess;
-use nomos_ir::ids::{CodeId, TypeId, VarId};
+use nomos_ir::ids::CodeId;
 use nomos_ir::mode::Mode;
 use nomos_ir::value::Values;
 use nomos_types::accepted::Accepted;
-
-/// An acquire: the variable that is bound to the linear channel, the shared name, the process that stands for it and
-/// where that goes on, the channel's type, and where the process goes on that acquires.
-#[derive(Clone, Copy, Debug)]
-pub(crate) struct Acquire {
-    pub(crate) variable: VarId,
-    pub(crate) shared: u32,
-    pub(crate) other: u32,
-    pub(crate) onward: CodeId,
-    pub(crate) goes: TypeId,
-    pub(crate) next: CodeId,
-}
-
-/// A release: the variable whose channel is released, the reference that is bound to the shared name again, the
-/// process that is released and where it goes on, and where the process goes on that releases.
-#[derive(Clone, Copy, Debug)]
-pub(crate) struct Release {
-    pub(crate) variable: VarId,
-    pub(crate) reference: VarId,
-    pub(crate) shared: u32,
-    pub(crate) other: u32,
-    pub(crate) onward: CodeId,
-    pub(crate) next: CodeId,
-}
 
 // How a process provides: at which mode, from which instruction on, under which name, and which shared name it goes
 // back to.
@@ -120,10 +98,10 @@ pub(crate) fn act_acquire<P: Parts>(
     values: &Values,
     acquire: Acquire,
 )
-    requires can { CanAct accepted.now (P.state parts.old) pid values.now (acquire_act acquire) }
+    requires can { CanAct accepted.now (P.state parts.old) pid values.now (act.Acquire acquire) }
     requires room { 8 ≤ P.room parts.old }
     ensures state { P.state parts.new
-        ≡ made_by_act accepted.now (P.state parts.old) pid values.now (acquire_act acquire) }
+        ≡ made_by_act accepted.now (P.state parts.old) pid values.now (act.Acquire acquire) }
     ensures room { P.room parts.old ≤ P.room parts.new + 7 }
     ensures marked { P.marked parts.new ≡ P.marked parts.old }
 {
@@ -138,10 +116,10 @@ pub(crate) fn act_release<P: Parts>(
     values: &Values,
     release: Release,
 )
-    requires can { CanAct accepted.now (P.state parts.old) pid values.now (release_act release) }
+    requires can { CanAct accepted.now (P.state parts.old) pid values.now (act.Release release) }
     requires room { 8 ≤ P.room parts.old }
     ensures state { P.state parts.new
-        ≡ made_by_act accepted.now (P.state parts.old) pid values.now (release_act release) }
+        ≡ made_by_act accepted.now (P.state parts.old) pid values.now (act.Release release) }
     ensures room { P.room parts.old ≤ P.room parts.new + 7 }
     ensures marked { P.marked parts.new ≡ P.marked parts.old }
 {

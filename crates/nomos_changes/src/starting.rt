@@ -146,7 +146,6 @@ pub fn start<P: Parts>(
     ensures room { keep ≤ P.room parts.old → keep ≤ P.room parts.new }
     ensures marked { P.marked parts.new ≡ P.marked parts.old }
 {
-    // Where the program is read it is known to be accepted.
     accepted.know();
     let changes = keep.checked_add(ROOM_OF_AN_ACT).ok_or(AllocError)?;
     parts.make_room(changes)?;

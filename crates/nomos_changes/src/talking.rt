@@ -117,7 +117,6 @@ pub fn open_outside<P: Outside>(
     ensures room { keep ≤ P.room parts.old → keep ≤ P.room parts.new }
     ensures marked { P.marked parts.new ≡ None }
 {
-    // Where the program is read it is known to be accepted.
     accepted.know();
     let changes = keep.checked_add(ROOM_OF_AN_ACT).ok_or(AllocError)?;
     parts.make_room(changes)?;
@@ -197,7 +196,6 @@ pub fn say<P: Outside>(
     ensures room { keep ≤ P.room parts.old → keep ≤ P.room parts.new }
     ensures marked { P.marked parts.new ≡ None }
 {
-    // Where the program is read it is known to be accepted.
     accepted.know();
     let Some(name) = parts.outside() else {
         unreachable!()
@@ -292,7 +290,6 @@ pub fn hear<P: Outside>(
     ensures room { keep ≤ P.room parts.old → keep ≤ P.room parts.new }
     ensures marked { P.marked parts.new ≡ None }
 {
-    // Where the program is read it is known to be accepted.
     accepted.know();
     let Some(name) = parts.outside() else {
         return Ok(None);

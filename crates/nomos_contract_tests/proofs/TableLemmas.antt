@@ -1,5 +1,5 @@
 -- A table of terms with a function is a program.
-use Rattle.std.proofs.Common.{◌≡◌, ◌<◌, ◌≤◌, ◌==◌, ◌&&◌, ℕ, zero, suc, Bool, true, false, cond, nat_lt, List, [], ◌∷◌, length, get_or, map, All, Some, None, slice_get, refl, subst, ap, arith, tests, rules}
+use Rattle.std.proofs.Common.{◌≡◌, ◌<◌, ◌≤◌, ◌==◌, ◌&&◌, ℕ, zero, suc, Bool, true, false, cond, nat_lt, List, [], ◌∷◌, length, get_or, map, All, Some, slice_get, refl, subst, arith, tests, rules}
 use Rattle.std.proofs.lemmas.List.Elements.{All-nil, All-cons}
 use Rattle.std.proofs.lemmas.Option.{slice_get-get_or}
 use Rattle.std.specs.Prelude.{IsTrue}
@@ -9,8 +9,6 @@ use Rattle.nomos_ir.specs.declared.ids.TermId.{TermId}
 use Rattle.nomos_ir.specs.declared.lists.ProgramLists.{ProgramLists}
 use Rattle.nomos_ir.specs.declared.term_node.TermNode.{TermNode}
 use Rattle.nomos_ir.specs.declared.term_node.TermNode.TheVariants as node
-use Rattle.nomos_ir.specs.declared.word.Word.{Word}
-use Rattle.nomos_ir.specs.declared.word.Word.TheVariants as word
 use Rattle.nomos_ir.specs.CodeParts.{code_next, code_kinds, code_labels}
 use Rattle.nomos_ir.specs.Naming.{AllDiffer}
 use Rattle.nomos_ir.specs.Parameters.{fn_parameters}
@@ -20,68 +18,14 @@ use Rattle.nomos_ir.specs.Kinds.{FnIsShallow, IsShallow}
 use Rattle.nomos_ir.specs.Name.{IsReserved, IsShortName, is_word_byte}
 use Rattle.nomos_ir.specs.Program.{IsProgram}
 use Rattle.nomos_ir.specs.TermParts.{term_parts, term_calls, term_kinds}
-use Rattle.nomos_ir.specs.Word.{text_of, reserved_word}
+use Rattle.nomos_ir.specs.Word.{reserved_word}
+use Rattle.nomos_syntax.proofs.WordLemmas.{not_reserved}
 use Rattle.nomos_contract_tests.specs.TermTable.{IsTermTable, fits_at, function_with, is_one_before, keeps, number, two_instructions}
 
--- the text of a reserved word is that word
-reserved_word-text_of : (w : Word) → reserved_word (text_of w) ≡ Some w
-unfolding reserved_word
-reserved_word-text_of word.Cost = refl
-reserved_word-text_of word.Ticks = refl
-reserved_word-text_of word.Sends = refl
-reserved_word-text_of word.All = refl
-reserved_word-text_of word.«Type» = refl
-reserved_word-text_of word.Fn = refl
-reserved_word-text_of word.Proc = refl
-reserved_word-text_of word.R = refl
-reserved_word-text_of word.S = refl
-reserved_word-text_of word.L = refl
-reserved_word-text_of word.T = refl
-reserved_word-text_of word.Int = refl
-reserved_word-text_of word.Bool = refl
-reserved_word-text_of word.List = refl
-reserved_word-text_of word.True = refl
-reserved_word-text_of word.False = refl
-reserved_word-text_of word.Nil = refl
-reserved_word-text_of word.If = refl
-reserved_word-text_of word.Then = refl
-reserved_word-text_of word.Else = refl
-reserved_word-text_of word.Match = refl
-reserved_word-text_of word.Not = refl
-reserved_word-text_of word.And = refl
-reserved_word-text_of word.Or = refl
-reserved_word-text_of word.Up = refl
-reserved_word-text_of word.Down = refl
-reserved_word-text_of word.SelfWord = refl
-reserved_word-text_of word.Me = refl
-reserved_word-text_of word.Send = refl
-reserved_word-text_of word.Recv = refl
-reserved_word-text_of word.Put = refl
-reserved_word-text_of word.Take = refl
-reserved_word-text_of word.Pay = refl
-reserved_word-text_of word.Get = refl
-reserved_word-text_of word.Work = refl
-reserved_word-text_of word.Wait = refl
-reserved_word-text_of word.Accept = refl
-reserved_word-text_of word.Detach = refl
-reserved_word-text_of word.Acquire = refl
-reserved_word-text_of word.Release = refl
-reserved_word-text_of word.Spawn = refl
-reserved_word-text_of word.As = refl
-reserved_word-text_of word.Let = refl
-reserved_word-text_of word.Emit = refl
-reserved_word-text_of word.Case = refl
-reserved_word-text_of word.Close = refl
-reserved_word-text_of word.Fwd = refl
-reserved_word-text_of word.Call = refl
-
--- so `f` is not reserved
+-- `f` is not reserved
 f-free : ¬ IsReserved (102 ∷ [])
 unfolding reserved_word
-f-free (w, is) =
-    let some = reserved_word-text_of w in
-    let none : reserved_word (102 ∷ []) ≡ None = refl in
-    let same = ap reserved_word is in cc
+f-free = not_reserved (102 ∷ []) refl
 
 f-short : IsShortName (102 ∷ [])
 f-short = record {

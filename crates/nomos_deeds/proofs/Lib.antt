@@ -7,4 +7,5 @@ mod WayLemmas
 pub mod FireLaws
 pub mod LowestLaws
 pub mod LinearNameLaws
+pub mod WalkLaws
 pub mod KeeperLaws

@@ -92,7 +92,14 @@ module _ (a : Acceptance) (s : State) (p : Process) (vs : List Value) (at : ℕ)
   pub acquired : (pid : ℕ) (r v : VarId) (head : TypeNode) (goes : TypeId) → process_at s pid ≡ Some p
       → slice_get a.program.code p.code.0 ≡ Some (code.Acquire at r v next) → bound_to r.0 p.channels ≡ Some name
       → accept_next n ≡ Some onward → node_of a.program s.types name ≡ Some head → after_acquire head ≡ Some goes
-      → option_map changes (act_change a s p vs (act.Acquire v name seen.pid onward goes next))
+      → option_map changes (act_change a s p vs (act.Acquire (record {
+        variable = v;
+        shared = name;
+        other = seen.pid;
+        onward = onward;
+        goes = goes;
+        next = next;
+      })))
       ≡ deed_at a s p vs (code.Acquire at r v next)
   acquired pid r v head goes there own bound accepts unfolds after =
       let is = other-seen s name seen order sees in
@@ -108,7 +115,14 @@ module _ (a : Acceptance) (s : State) (p : Process) (vs : List Value) (at : ℕ)
       → slice_get a.program.code p.code.0 ≡ Some (code.Release at v r next) → bound_to v.0 p.channels ≡ Some name
       → detach_next n ≡ Some onward
       → seen.base ≡ Some base
-      → option_map changes (act_change a s p vs (act.Release v r base seen.pid onward next))
+      → option_map changes (act_change a s p vs (act.Release (record {
+        variable = v;
+        reference = r;
+        shared = base;
+        other = seen.pid;
+        onward = onward;
+        next = next;
+      })))
       ≡ deed_at a s p vs (code.Release at v r next)
   released pid v r base there own bound detaches its_base =
       let is = other-seen s name seen order sees in

@@ -78,10 +78,10 @@ IsFrugalInto (into.Value v) = ⊥
 IsFrugalInto _ = Unit {0}
 
 abbrev pub IsFrugalAct : Act → Type 0
-IsFrugalAct (act.Receive c number where_to next) = IsFrugalInto where_to
+IsFrugalAct (act.Receive receive) = IsFrugalInto receive.into
 IsFrugalAct (act.Wait v number next) = Unit {0}
-IsFrugalAct (act.Acquire v shared other onward goes next) = Unit {0}
-IsFrugalAct (act.Release v r shared other onward next) = Unit {0}
+IsFrugalAct (act.Acquire acquire) = Unit {0}
+IsFrugalAct (act.Release release) = Unit {0}
 IsFrugalAct (act.Work gas next) = Unit {0}
 IsFrugalAct (act.Choose next) = Unit {0}
 IsFrugalAct act.Close = Unit {0}

@@ -81,23 +81,25 @@ module _ (a : Acceptance) (s : State) (p : Process) (vs : List Value) where
       (with_value head x (with_list tail (record l { items = xs }) (list_used_up w p)))))
 
   abbrev pub act_change : Act → Option Change
-  act_change (act.Send c brought goes next) = sending_change c brought (Some goes) next
-  act_change (act.Receive c number where_to next) =
-      message_at s.objects number >>= λ m. received_change m c where_to next
+  act_change (act.Send send) = sending_change send.channel send.sending (Some send.goes) send.next
+  act_change (act.Receive receive) =
+      message_at s.objects receive.message >>= λ m. received_change m receive.channel receive.into receive.next
   act_change (act.Wait v number next) =
       message_at s.objects number >>= λ m. Some (takes a s p m (standing_at next (without_channel v p)))
-  act_change (act.Acquire v shared other onward goes next) = process_at s other >>= another p >>= λ q.
-      Some (record (with_other a s p (standing_at next (with_channel v s.next_name p)) (record q {
+  act_change (act.Acquire acquire) = process_at s acquire.other >>= another p >>= λ q.
+      let own = with_channel acquire.variable s.next_name p in
+      Some (record (with_other a s p (standing_at acquire.next own) (record q {
         mode = mode.L;
-        code = onward;
+        code = acquire.onward;
         offers = s.next_name;
-        base = Some shared;
-      })) { next_type = Some goes })
-  act_change (act.Release v r shared other onward next) = process_at s other >>= another p >>= λ q.
-      Some (with_other a s p (standing_at next (with_channel r shared (without_channel v p))) (record q {
+        base = Some acquire.shared;
+      })) { next_type = Some acquire.goes })
+  act_change (act.Release release) = process_at s release.other >>= another p >>= λ q.
+      let own = with_channel release.reference release.shared (without_channel release.variable p) in
+      Some (with_other a s p (standing_at release.next own) (record q {
         mode = mode.S;
-        code = onward;
-        offers = shared;
+        code = release.onward;
+        offers = release.shared;
         base = None;
       }))
   act_change (act.Spawn v f next) = do

@@ -31,49 +31,72 @@ pub enum Into {
     Value(VarId),
 }
 
+/// A send on a channel, which goes on at a type.
+#[derive(Clone, Copy, Debug)]
+pub struct Send {
+    pub channel: Chan,
+    pub sending: Sending,
+    pub goes: TypeId,
+    /// The instruction at which the process goes on.
+    pub next: CodeId,
+}
+
+/// A receive of the message of this number on a channel.
+#[derive(Clone, Copy, Debug)]
+pub struct Receive {
+    pub channel: Chan,
+    pub message: u32,
+    pub into: Into,
+    /// The instruction at which the process goes on.
+    pub next: CodeId,
+}
+
+/// An acquire of the contract of a shared name.
+#[derive(Clone, Copy, Debug)]
+pub struct Acquire {
+    /// The variable to which the linear channel is bound.
+    pub variable: VarId,
+    pub shared: u32,
+    /// The number of the process that stands for the shared name.
+    pub other: u32,
+    /// Where that process goes on.
+    pub onward: CodeId,
+    /// The type of the linear channel.
+    pub goes: TypeId,
+    /// The instruction at which the process goes on that acquires.
+    pub next: CodeId,
+}
+
+/// A release of a channel.
+#[derive(Clone, Copy, Debug)]
+pub struct Release {
+    /// The variable whose channel is released.
+    pub variable: VarId,
+    /// The variable that is bound to the shared name again.
+    pub reference: VarId,
+    /// The shared name for which the provider stands again.
+    pub shared: u32,
+    /// The number of the provider.
+    pub other: u32,
+    /// Where the provider goes on.
+    pub onward: CodeId,
+    /// The instruction at which the process goes on that releases.
+    pub next: CodeId,
+}
+
 /// What a process does when it fires. `next` is the instruction at which it goes on.
 #[derive(Clone, Copy, Debug)]
 pub enum Act {
-    /// It sends on a channel, which goes on at a type.
-    Send {
-        channel: Chan,
-        sending: Sending,
-        goes: TypeId,
-        next: CodeId,
-    },
-    /// It receives the message of this number on a channel.
-    Receive {
-        channel: Chan,
-        message: u32,
-        into: Into,
-        next: CodeId,
-    },
+    Send(Send),
+    Receive(Receive),
     /// It receives the end of the talk on the variable's channel, which is the message of this number.
     Wait {
         variable: VarId,
         message: u32,
         next: CodeId,
     },
-    /// It acquires the contract of a shared name, whose process, of the number `other`, goes on at `onward`. The linear
-    /// channel has this type, and is bound to the variable.
-    Acquire {
-        variable: VarId,
-        shared: u32,
-        other: u32,
-        onward: CodeId,
-        goes: TypeId,
-        next: CodeId,
-    },
-    /// It releases the variable's channel. The provider, of the number `other`, goes on at `onward` and stands for the
-    /// shared name, to which the reference refers.
-    Release {
-        variable: VarId,
-        reference: VarId,
-        shared: u32,
-        other: u32,
-        onward: CodeId,
-        next: CodeId,
-    },
+    Acquire(Acquire),
+    Release(Release),
     /// It spawns a process of the declaration, with the instruction's arguments, whose channel is bound to the
     /// variable.
     Spawn {

@@ -37,7 +37,6 @@ pub(crate) fn act_on<M: Acting>(
     ensures frugal { 0 < M.spare machine.old → IsFrugalDoing decision.doing → IsOk result }
     ensures marked { M.marked machine.new ≡ M.marked machine.old }
 {
-    // Where the program is read it is known to be accepted.
     accepted.know();
     let Decision { doing, values } = decision;
     let Some(doing) = doing else { unreachable!() };

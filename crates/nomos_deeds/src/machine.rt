@@ -52,7 +52,6 @@ pub trait Machine: Acting {
         requires { IsTyped accepted.now (Self.state self.now) }
         ensures { IsTrue result ↔ IsReady accepted.now (Self.state self.now) pid }
     {
-        // Where the program is read it is known to be accepted.
         accepted.know();
         looks_ready(self, accepted, pid)
     }
@@ -76,7 +75,6 @@ pub trait Machine: Acting {
         ensures frugal { 0 < Self.spare self.old → IsFrugal accepted.now (Self.state self.old) pid → IsOk result }
         ensures marked { Self.marked self.new ≡ Self.marked self.old }
     {
-        // Where the program is read it is known to be accepted.
         accepted.know();
         let decision = decide(&*self, alloc, accepted, pid)?;
         act_on(self, alloc, accepted, pid, decision)
@@ -140,7 +138,6 @@ pub trait Machine: Acting {
         ensures frugal { 0 < Self.spare self.old → IsFrugal accepted.now (Self.state self.old) pid → IsOk result }
         ensures marked { Self.marked self.new ≡ Self.marked self.old }
     {
-        // Where the program is read it is known to be accepted.
         accepted.know();
         let decision = decide_with(&*self, alloc, accepted, pid, known)?;
         act_on(self, alloc, accepted, pid, decision)

@@ -18,7 +18,7 @@ ghost use Rattle.nomos_deeds.specs.Acting.{IsFrugalDoing, IsFrugalInto};
 ghost use Rattle.nomos_deeds.specs.Acts.{Decides, doing_deed, message_at, read_by, received_change};
 ghost use Rattle.nomos_deeds.specs.SeenObjects.{seen_message, seen_label, seen_channel, brings_value, brings_potential};
 
-use crate::act::{Act, Doing, Into};
+use crate::act::{Act, Doing, Into, Receive};
 use crate::arms::arm_for;
 use crate::sending::name_on;
 use crate::sight::{SeenMessage, SeenPayload, Sight};
@@ -92,12 +92,12 @@ fn receives(message: SeenMessage, channel: Chan, into: Into, next: Option<CodeId
 {
     let next = next?;
     let _name = message.next?;
-    Some(Doing::Acts(Act::Receive {
+    Some(Doing::Acts(Act::Receive(Receive {
         channel,
         message: message.number,
         into,
         next,
-    }))
+    })))
 }
 
 /// A `case`: the branch of the label that it receives.

@@ -11,7 +11,7 @@ ghost use Rattle.nomos_machine.specs.State.{State, process_at, node_of};
 ghost use Rattle.nomos_machine.specs.declared.object.Process.{Process};
 ghost use Rattle.nomos_deeds.specs.Acts.{Decides, sending_change, doing_deed};
 
-use crate::act::{Act, Doing, Sending};
+use crate::act::{Act, Doing, Send, Sending};
 use crate::sight::Sight;
 use crate::unfolded_types::{
     after_channel, after_label, after_potential, after_value, shows_shared, unfolded,
@@ -82,12 +82,12 @@ pub(crate) fn sends(
         → doing_deed a s p vs result ≡ option_map changes (sending_change a s p vs channel sending goes next) }
 {
     let goes = goes?;
-    Some(Doing::Acts(Act::Send {
+    Some(Doing::Acts(Act::Send(Send {
         channel,
         sending,
         goes,
         next,
-    }))
+    })))
 }
 
 // The type with which a channel of a process goes on after a label, a channel, a value and potential.

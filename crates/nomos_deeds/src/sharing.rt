@@ -11,7 +11,7 @@ ghost use Rattle.nomos_machine.specs.declared.object.Process.{Process};
 ghost use Rattle.nomos_deeds.specs.Acting.{IsFrugalDoing};
 ghost use Rattle.nomos_deeds.specs.Acts.{Decides, provider_node};
 
-use crate::act::{Act, Doing};
+use crate::act::{Acquire, Act, Doing, Release};
 use crate::arms::code_at;
 use crate::sending::node_of;
 use crate::sight::Sight;
@@ -37,14 +37,14 @@ pub(crate) fn acquire_at<S: Sight>(
     let other = sight.offering(shared)?;
     let onward = accept_next(code_at(accepted, other.code)?)?;
     let goes = after_acquire(node_of(sight, accepted, shared)?)?;
-    Some(Doing::Acts(Act::Acquire {
+    Some(Doing::Acts(Act::Acquire(Acquire {
         variable: variables.1,
         shared,
         other: other.pid,
         onward,
         goes,
         next,
-    }))
+    })))
 }
 
 /// A `release`, where the provider stands at `detach`.
@@ -64,14 +64,14 @@ pub(crate) fn release_at<S: Sight>(
     let other = sight.offering(name)?;
     let onward = detach_next(code_at(accepted, other.code)?)?;
     let shared = other.base?;
-    Some(Doing::Acts(Act::Release {
+    Some(Doing::Acts(Act::Release(Release {
         variable: variables.0,
         reference: variables.1,
         shared,
         other: other.pid,
         onward,
         next,
-    }))
+    })))
 }
 
 // Where the process that offers the channel of a variable stands.

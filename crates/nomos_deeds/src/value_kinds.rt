@@ -1,28 +1,12 @@
 //! Whether values have kinds.
-ghost use Rattle.std.specs.Prelude.{◌≡◌, ◌↔◌, IsTrue, MatchOption};
-ghost use Rattle.nomos_ir.specs.TermKind.{list_kind};
+ghost use Rattle.std.specs.Prelude.{◌≡◌, ◌↔◌, IsTrue};
 ghost use Rattle.nomos_ir.specs.Value.{value_list};
 ghost use Rattle.nomos_ir.specs.ValueKind.{ValueHasKind, AllHaveKind};
 ghost use Rattle.nomos_ir.specs.ValueNode.{value_of};
-ghost use Rattle.nomos_ir.specs.declared.kind.Kind.{Kind};
 
 use nomos_ir::kind::Kind;
 use nomos_ir::value::Values;
 use nomos_ir::value_node::ValueNode;
-
-/// The kind of a list's elements, where the kind is that of a list.
-fn element_of(kind: Kind) -> Option<Kind>
-    ensures { MatchOption result ((element : Kind) → kind ≡ list_kind element → ⊥)
-        (λ element. kind ≡ list_kind element) }
-{
-    if kind.lists == 0 {
-        return None;
-    }
-    Some(Kind {
-        lists: kind.lists - 1,
-        base: kind.base,
-    })
-}
 
 /// Whether the value of a node has a kind. It uses the machine's stack in step with how deep lists are nested in it.
 #[cycle(kinds)]
@@ -32,16 +16,16 @@ pub fn has_kind(node: &ValueNode, kind: Kind) -> bool
     match node {
         ValueNode::Int(_) => kind == Kind::INT,
         ValueNode::Bool(_) => kind == Kind::BOOL,
-        ValueNode::List(items) => match element_of(kind) {
+        ValueNode::List(items) => match kind.element() {
             Some(element) => all_have_kind(items, element),
             None => false,
         },
     }
 }
 
-/// Whether all values have a kind.
+/// Whether all values have a kind. It uses the machine's stack in step with how deep lists are nested in them.
 #[cycle(kinds)]
-fn all_have_kind(items: &Values, kind: Kind) -> bool
+pub fn all_have_kind(items: &Values, kind: Kind) -> bool
     ensures { IsTrue result ↔ AllHaveKind (value_list items.now) kind }
 {
     let mut left = items;

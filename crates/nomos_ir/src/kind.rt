@@ -1,4 +1,6 @@
 //! The kinds of values.
+ghost use Rattle.std.specs.Prelude.{◌≡◌, MatchOption};
+ghost use Rattle.nomos_ir.specs.TermKind.{list_kind};
 
 /// What a value is made of in the end: numbers or truth values.
 #[derive(Clone, Copy, PartialEq, Eq, Debug)]
@@ -26,4 +28,18 @@ impl Kind {
         lists: 0,
         base: Base::Bool,
     };
+
+    /// The kind of a list's elements, where the kind is that of a list.
+    pub fn element(self) -> Option<Kind>
+        ensures { MatchOption result ((element : Kind) → self ≡ list_kind element → ⊥)
+            (λ element. self ≡ list_kind element) }
+    {
+        if self.lists == 0 {
+            return None;
+        }
+        Some(Kind {
+            lists: self.lists - 1,
+            base: self.base,
+        })
+    }
 }

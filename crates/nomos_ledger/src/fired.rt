@@ -44,7 +44,7 @@ impl Fired {
         ensures firings { self.new.firings.items ≡ self.old.firings.items ++ firing ∷ [] }
         ensures places { self.new.places.items ≡ self.old.places.items ++ place ∷ [] }
     {
-        let _noted = self.firings.push(firing);
-        let _placed = self.places.push(place);
+        self.firings.push_reserved(firing);
+        self.places.push_reserved(place);
     }
 }

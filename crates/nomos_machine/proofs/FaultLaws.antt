@@ -1,6 +1,6 @@
 -- A fault stays while others fire: a firing leaves the instruction, the values and the lists of each process that waits
 -- for nobody, and a fault comes of these alone.
-use Rattle.std.proofs.Common.{if◌then◌else◌, ◌≡◌, ◌≢◌, ◌∙◌, ◌==◌, ◌+◌, inl, inr, ℕ, not, Bool, true, false, cond, List, [], ◌∷◌, ◌++◌, map, All, Contains, Option, Some, None, Ok, Err, slice_get, option_and_then, refl, sym, subst, ap, nat_le}
+use Rattle.std.proofs.Common.{if◌then◌else◌, ◌≡◌, ◌≢◌, ◌∙◌, ◌==◌, inl, inr, ℕ, not, Bool, true, false, cond, List, [], ◌∷◌, ◌++◌, map, All, Contains, Option, Some, None, Ok, Err, slice_get, option_and_then, refl, sym, subst, ap}
 use Rattle.std.proofs.lemmas.Bool.{cases_eq}
 use Rattle.std.proofs.lemmas.List.Folds.{find-append}
 use Rattle.std.proofs.lemmas.List.Elements.{All-nil, All-cons, All-head, All-tail}
@@ -24,7 +24,7 @@ use Rattle.nomos_machine.specs.Change.{Change, put_at, put_all, changed}
 use Rattle.nomos_machine.specs.Deeds.{Deed, changes, has_fault, alone, sends, receives, hears_end, closes, forwards, takes_apart, adds, deed_at, label_in, value_in, channel_in, potential_in, close_in, arm_for, one_of, lengthened, is_light, where_it_has}
 use Rattle.nomos_ir.specs.TermsEvaluation.{TermsResult, terms_evaluation}
 use Rattle.nomos_machine.specs.Given.{given}
-use Rattle.nomos_machine.specs.Objects.{object_number, object_at, potential_of, process_of}
+use Rattle.nomos_machine.specs.Objects.{object_number, object_at, process_of}
 use Rattle.nomos_machine.specs.Optional.{◌>>=◌}
 use Rattle.nomos_machine.specs.Revised.{standing_at, under_name, with_channel, with_value, with_list, list_used_up, renamed, uses_instead}
 use Rattle.nomos_machine.specs.Run.{run}
@@ -39,6 +39,7 @@ use Rattle.nomos_machine.specs.declared.object.Payload.{Payload}
 use Rattle.nomos_machine.specs.declared.object.PotentialList.{PotentialList}
 use Rattle.nomos_machine.specs.declared.object.Process.{Process}
 use Rattle.nomos_machine.proofs.ChangeLaws.{Replaces, done, further}
+use Rattle.nomos_machine.proofs.EachChangeLaws.{OfChange, OfDeed, change-some, change-bind, change-where, deed-does, deed-some, deed-bind, deed-either, deed-none, deed-fault}
 use Rattle.nomos_machine.proofs.FiringLaws.{step-fires}
 use Rattle.nomos_machine.proofs.MessageLaws.{message_on-found}
 use Rattle.nomos_machine.proofs.PlainLaws.{run-by_any_steps}
@@ -63,55 +64,6 @@ module _ (a : Acceptance) (s : State) (p : Process) where
   abbrev EachPlace : Change → Type 0
   EachPlace c = All Place c.places
 
-  record Places (change : Option Change) : Type 0 where
-    each : (c : Change) → change ≡ Some c → EachPlace c
-
-  record DeedPlaces (d : Option Deed) : Type 0 where
-    of_changes : (c : Change) → d ≡ Some (changes c) → EachPlace c
-
-  places-some : (c : Change) → EachPlace c → Places (Some c)
-  places-some c are = record { each = λ d is. subst EachPlace (same d is) are }
-    where
-      same : (d : Change) → Some c ≡ Some d → c ≡ d
-      same d is = cc
-
-  places-bind : {X : Type 0} (o : Option X) (f : X → Option Change) → ((x : X) → o ≡ Some x → Places (f x))
-      → Places (option_and_then f o)
-  places-bind None f rest = record { each = λ c is. absurd cc }
-  places-bind (Some x) f rest = rest x refl
-
-  places-where : (gas : ℕ) (change : Option Change) → Places change → Places (where_it_has gas p change)
-  places-where gas change are = either (nat_le (gas + potential_of p) p.purse)
-    where
-      either : (b : Bool) → Places (cond b change None)
-      either true = are
-      either false = record { each = λ c is. absurd cc }
-
-  deed-does : (change : Option Change) → Places change → DeedPlaces (option_map changes change)
-  deed-does None are = record { of_changes = λ c is. absurd cc }
-  deed-does (Some d) are = record { of_changes = λ c is. are.each c (same c is) }
-    where
-      same : (c : Change) → Some (changes d) ≡ Some (changes c) → Some d ≡ Some c
-      same c is = cc
-
-  deed-some : (c : Change) → EachPlace c → DeedPlaces (Some (changes c))
-  deed-some c are = deed-does (Some c) (places-some c are)
-
-  deed-bind : {X : Type 0} (o : Option X) (f : X → Option Deed) → ((x : X) → o ≡ Some x → DeedPlaces (f x))
-      → DeedPlaces (option_and_then f o)
-  deed-bind None f rest = record { of_changes = λ c is. absurd cc }
-  deed-bind (Some x) f rest = rest x refl
-
-  deed-either : (b : Bool) (d e : Option Deed) → DeedPlaces d → DeedPlaces e → DeedPlaces (cond b d e)
-  deed-either true d e first second = first
-  deed-either false d e first second = second
-
-  deed-none : DeedPlaces None
-  deed-none = record { of_changes = λ c is. absurd cc }
-
-  deed-fault : (f : Fault) → DeedPlaces (Some (has_fault f))
-  deed-fault f = record { of_changes = λ c is. absurd cc }
-
   -- ---- the kinds of change
 
   own-place : (new : Option Object) → All Place ((p.pid, new) ∷ [])
@@ -122,26 +74,27 @@ module _ (a : Acceptance) (s : State) (p : Process) where
       All-cons Place (p.pid, new) (e ∷ []) (own new) (All-cons Place e [] other (All-nil Place))
 
   sends-places : (c : Chan) (brought : Payload) (gas : ℕ) (q : Process) (goes : Option TypeId) (next : CodeId)
-      → Places (sends a s p c brought gas q goes next)
+      → OfChange EachPlace (sends a s p c brought gas q goes next)
   sends-places c brought gas q goes next =
-      places-bind (present_name p c) _ (λ from is.
-      places-bind goes _ (λ t is_t. places-some _ (own-place _)))
+      change-bind (present_name p c) _ (λ from is.
+      change-bind goes _ (λ t is_t. change-some _ (own-place _)))
 
-  receives-places : (c : Chan) (reads : Payload → Process → Option Process) → Places (receives a s p c reads)
+  receives-places : (c : Chan) (reads : Payload → Process → Option Process)
+      → OfChange EachPlace (receives a s p c reads)
   receives-places c reads =
-      places-bind (present_name p c) _ (λ from is.
-      places-bind (message_on s.objects (not (is_own c)) from) _ (λ m is_m.
-      places-bind m.next _ (λ name is_name.
-      places-bind (reads m.payload (under_name c name p)) _ (λ q is_q.
-      places-some _ (two-places _ (m.number, None)
+      change-bind (present_name p c) _ (λ from is.
+      change-bind (message_on s.objects (not (is_own c)) from) _ (λ m is_m.
+      change-bind m.next _ (λ name is_name.
+      change-bind (reads m.payload (under_name c name p)) _ (λ q is_q.
+      change-some _ (two-places _ (m.number, None)
       (read m (message_on-found (not (is_own c)) from m s.objects is_m).waiting))))))
 
-  hears-places : (v : VarId) (next : CodeId) → Places (hears_end a s p v next)
+  hears-places : (v : VarId) (next : CodeId) → OfChange EachPlace (hears_end a s p v next)
   hears-places v next =
-      places-bind (bound_to v.0 p.channels) _ (λ from is.
-      places-bind (message_on s.objects true from) _ (λ m is_m.
-      places-bind (close_in m.payload) _ (λ over is_over.
-      places-some _ (two-places _ (m.number, None) (read m (message_on-found true from m s.objects is_m).waiting)))))
+      change-bind (bound_to v.0 p.channels) _ (λ from is.
+      change-bind (message_on s.objects true from) _ (λ m is_m.
+      change-bind (close_in m.payload) _ (λ over is_over.
+      change-some _ (two-places _ (m.number, None) (read m (message_on-found true from m s.objects is_m).waiting)))))
 
   closes-places : (m : Mode) → EachPlace (closes a s p m)
   closes-places mode.R = own-place None
@@ -188,76 +141,76 @@ module _ (a : Acceptance) (s : State) (p : Process) where
 
   -- ---- one line or some for each instruction
 
-  deed_at-places : (n : CodeNode) (vs : List Value) → DeedPlaces (deed_at a s p vs n)
+  deed_at-places : (n : CodeNode) (vs : List Value) → OfDeed EachPlace (deed_at a s p vs n)
   deed_at-places (code.Label at c l next) vs = deed-does _ (sends-places c _ 0 p _ next)
   deed_at-places (code.Case at c arms) vs =
       deed-does _ (receives-places c (λ brought q.
       label_in brought >>= arm_for arms >>= λ next. Some (standing_at next q)))
   deed_at-places (code.Send at c y next) vs =
-      deed-does _ (places-bind (bound_to y.0 p.channels) _ (λ name is. sends-places c _ 0 _ _ next))
+      deed-does _ (change-bind (bound_to y.0 p.channels) _ (λ name is. sends-places c _ 0 _ _ next))
   deed_at-places (code.Recv at c y next) vs =
       deed-does _ (receives-places c (λ brought q.
       channel_in brought >>= λ name. Some (standing_at next (with_channel y name q))))
   deed_at-places (code.Put at c e next) vs =
-      deed-does _ (places-bind (one_of vs) _ (λ x is. sends-places c _ 0 p _ next))
+      deed-does _ (change-bind (one_of vs) _ (λ x is. sends-places c _ 0 p _ next))
   deed_at-places (code.Take at c v next) vs =
       deed-does _ (receives-places c (λ brought q.
       value_in brought >>= λ x. Some (standing_at next (with_value v x q))))
   deed_at-places (code.Pay at c r next) vs =
-      deed-does _ (places-where (dths a.annotations r) _ (sends-places c _ _ _ _ next))
+      deed-does _ (change-where p (dths a.annotations r) _ (sends-places c _ _ _ _ next))
   deed_at-places (code.Get at c r next) vs =
       deed-does _ (receives-places c (λ brought q. potential_in brought >>= λ _. Some (standing_at next q)))
   deed_at-places (code.Work at r next) vs =
-      deed-does _ (places-where (dths a.annotations r) _ (places-some _ (own-place _)))
+      deed-does _ (change-where p (dths a.annotations r) _ (change-some _ (own-place _)))
   deed_at-places (code.Wait at v next) vs = deed-does _ (hears-places v next)
   deed_at-places (code.Accept at next) vs = deed-none
   deed_at-places (code.Detach at next) vs = deed-none
   deed_at-places (code.Acquire at r v next) vs =
-      deed-does _ (places-bind (bound_to r.0 p.channels) _ (λ shared is.
-      places-bind (offering s.objects shared) _ (λ other is_other.
-      places-bind (slice_get a.program.code other.code.0) _ (λ n stands.
-      places-bind (accept_next n) _ (λ onward is_onward.
-      places-bind (node_of a.program s.types shared >>= after_acquire) _ (λ t is_t.
-      places-some _ (two-places _ _
+      deed-does _ (change-bind (bound_to r.0 p.channels) _ (λ shared is.
+      change-bind (offering s.objects shared) _ (λ other is_other.
+      change-bind (slice_get a.program.code other.code.0) _ (λ n stands.
+      change-bind (accept_next n) _ (λ onward is_onward.
+      change-bind (node_of a.program s.types shared >>= after_acquire) _ (λ t is_t.
+      change-some _ (two-places _ _
       (met other _ (offering-found s.objects shared other is_other).0
       (accepting-none other n stands onward is_onward)))))))))
   deed_at-places (code.Release at v r next) vs =
-      deed-does _ (places-bind (bound_to v.0 p.channels) _ (λ name is.
-      places-bind (offering s.objects name) _ (λ other is_other.
-      places-bind (slice_get a.program.code other.code.0) _ (λ n stands.
-      places-bind (detach_next n) _ (λ onward is_onward.
-      places-bind other.base _ (λ shared is_base.
-      places-some _ (two-places _ _
+      deed-does _ (change-bind (bound_to v.0 p.channels) _ (λ name is.
+      change-bind (offering s.objects name) _ (λ other is_other.
+      change-bind (slice_get a.program.code other.code.0) _ (λ n stands.
+      change-bind (detach_next n) _ (λ onward is_onward.
+      change-bind other.base _ (λ shared is_base.
+      change-some _ (two-places _ _
       (met other _ (offering-found s.objects name other is_other).0
       (detaching-none other n stands onward is_onward)))))))))
   deed_at-places (code.Spawn at v f args next) vs =
       deed-bind (slice_get a.program.procs f.0) _ (λ d declared.
       deed-bind (given p vs args d) _ (λ g is_given.
-      deed-does _ (places-where (dths a.annotations d.amount) _ (places-some _ (own-place _)))))
+      deed-does _ (change-where p (dths a.annotations d.amount) _ (change-some _ (own-place _)))))
   deed_at-places (code.Let at v e next) vs =
-      deed-does _ (places-bind (one_of vs) _ (λ x is. places-some _ (own-place _)))
+      deed-does _ (change-bind (one_of vs) _ (λ x is. change-some _ (own-place _)))
   deed_at-places (code.Emit at e next) vs =
-      deed-does _ (places-bind (one_of vs) _ (λ x is. places-some _ (own-place _)))
+      deed-does _ (change-bind (one_of vs) _ (λ x is. change-some _ (own-place _)))
   deed_at-places (code.If at e then_next else_next) vs =
-      deed-does _ (places-bind (one_of vs) _ (λ x is. places-some _ (own-place _)))
+      deed-does _ (change-bind (one_of vs) _ (λ x is. change-some _ (own-place _)))
   deed_at-places (code.Close at) vs = deed-some _ (closes-places p.mode)
   deed_at-places (code.Fwd at v) vs =
-      deed-does _ (places-bind (bound_to v.0 p.channels) _ (λ name is. places-some _ (forwards-places name)))
+      deed-does _ (change-bind (bound_to v.0 p.channels) _ (λ name is. change-some _ (forwards-places name)))
   deed_at-places (code.Call at f args) vs =
       deed-bind (slice_get a.program.procs f.0) _ (λ d declared.
       deed-bind (given p vs args d) _ (λ g is_given.
-      deed-does _ (places-where (dths a.annotations d.amount) _ (places-some _ (own-place _)))))
+      deed-does _ (change-where p (dths a.annotations d.amount) _ (change-some _ (own-place _)))))
   deed_at-places (code.Empty at v r kind next) vs = deed-some _ (own-place _)
   deed_at-places (code.Add at v e w next) vs =
       deed-bind (one_of vs) _ (λ x is.
       deed-bind (bound_to w.0 p.lists) _ (λ l is_l.
       deed-either (is_light (lengthened x l)) _ _
-      (deed-does _ (places-where l.amount _ (places-some _ (own-place _)))) (deed-fault _)))
+      (deed-does _ (change-where p l.amount _ (change-some _ (own-place _)))) (deed-fault _)))
   deed_at-places (code.Match at w empty_next head tail full_next) vs =
-      deed-does _ (places-bind (bound_to w.0 p.lists) _ (λ l is.
-      places-some _ (apart-places w empty_next head tail full_next l l.items)))
+      deed-does _ (change-bind (bound_to w.0 p.lists) _ (λ l is.
+      change-some _ (apart-places w empty_next head tail full_next l l.items)))
 
-  deed_by-places : (n : CodeNode) (values : TermsResult) → DeedPlaces (deed_by a s p n values)
+  deed_by-places : (n : CodeNode) (values : TermsResult) → OfDeed EachPlace (deed_by a s p n values)
   deed_by-places n (Ok vs) = deed_at-places n vs
   deed_by-places n (Err f) = deed-fault f
 

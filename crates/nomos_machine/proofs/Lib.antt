@@ -53,6 +53,7 @@ mod TalkExamples
 mod StepExamples
 mod RunExamples
 mod QuietExamples
+pub mod EachChangeLaws
 pub mod FaultLaws
 pub mod FiringLaws
 pub mod RunLaws

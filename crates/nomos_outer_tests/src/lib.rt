@@ -13,7 +13,6 @@ mod memory_tests;
 #[cfg(test)]
 mod numbered_tests;
 #[cfg(test)]
-mod places_tests;
 #[cfg(test)]
 mod script_tests;
 #[cfg(test)]

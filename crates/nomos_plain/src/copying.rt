@@ -5,9 +5,10 @@ ghost use Rattle.nomos_plain.specs.Parts.{HasRoom, IsSound, object_in, process_i
 
 use crate::plain_object::{PlainObject, PlainProcess};
 use crate::plain_parts::PlainParts;
+use nomos_changes::process_lists::copy_lists;
 use nomos_ir::ids::VarId;
 use nomos_ir::value::Value;
-use nomos_machine::object::{Message, Payload, PotentialList};
+use nomos_machine::object::{Message, Payload};
 use std::alloc::{AllocError, Global};
 
 // A copy of items that own nothing.
@@ -27,24 +28,6 @@ fn copy_values(alloc: Global, values: &[(VarId, Value)]) -> Result<Vec<(VarId, V
     let mut made = Vec::new(alloc);
     for pair in values {
         made.push((pair.0, pair.1.copy()?))?;
-    }
-    Ok(made)
-}
-
-// A copy of variables with their lists.
-fn copy_lists(
-    alloc: Global,
-    lists: &[(VarId, PotentialList)],
-) -> Result<Vec<(VarId, PotentialList)>, AllocError>
-    ensures { IfOk result (λ made. made.items ≡ lists.now) }
-{
-    let mut made = Vec::new(alloc);
-    for pair in lists {
-        let list = PotentialList {
-            amount: pair.1.amount,
-            items: pair.1.items.copy()?,
-        };
-        made.push((pair.0, list))?;
     }
     Ok(made)
 }

@@ -6,10 +6,11 @@ ghost use Rattle.nomos_plain.specs.Plain.{spare};
 
 use crate::finds::{message_on, offering, process_at, seen_message, seen_process, user};
 use crate::plain_parts::PlainParts;
-use crate::readers::{self, list_of};
+use crate::readers;
 use crate::weights::{affords, is_light_with};
 use nomos_changes::parts::Parts;
 use nomos_changes::performing::{Intent, ROOM_OF_AN_ACT, perform};
+use nomos_changes::process_lists::list_of;
 use nomos_changes::starting::{StartLine, start};
 use nomos_deeds::act::Act;
 use nomos_deeds::acting::Acting;

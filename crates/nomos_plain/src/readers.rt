@@ -3,7 +3,6 @@ ghost use Rattle.std.specs.Prelude.{◌≡◌, ◌<◌, ◌^◌, ◌&&◌, nat_l
 ghost use Rattle.std.specs.List.Sorted.{IsStrictlySortedBy};
 ghost use Rattle.std.specs.Option.{option_map};
 ghost use Rattle.std.specs.Ordering.{nat_cmp};
-ghost use Rattle.nomos_ir.specs.Bindings.{bound_to};
 ghost use Rattle.nomos_machine.specs.Deeds.{value_in};
 ghost use Rattle.nomos_machine.specs.Objects.{object_at, object_number, process_of, purse_of};
 ghost use Rattle.nomos_machine.specs.Run.{IsNextReady, NoneReady};
@@ -17,7 +16,7 @@ ghost use Rattle.nomos_deeds.specs.Lowest.{FindsNext};
 ghost use Rattle.nomos_changes.specs.SmallChanges.{value_brought};
 ghost use Rattle.nomos_deeds.specs.Readers.{IsLinearName, IsTransaction, IsWaiting, acquires, keeper, looks_linear, stands_for, view_of, waits};
 ghost use Rattle.nomos_plain.specs.Parts.{object_in, process_in};
-ghost use Rattle.nomos_plain.specs.PlainWalks.{is_acquiring, is_over, is_ready_in, is_transaction};
+ghost use Rattle.nomos_deeds.specs.ProcessWalks.{is_acquiring, is_over, is_ready_in, is_transaction};
 
 use crate::finds::{message_at, process_at, user};
 use crate::plain_object::{PlainObject, PlainProcess};
@@ -65,18 +64,6 @@ pub(crate) fn view(objects: &[PlainObject], pid: u32) -> Option<View>
         base: p.base,
         purse: p.purse,
     })
-}
-
-/// The list of a variable.
-pub(crate) fn list_of(lists: &[(VarId, PotentialList)], w: VarId) -> Option<&PotentialList>
-    ensures { option_copied result ≡ bound_to w.0 lists.now }
-{
-    for pair in lists {
-        if pair.0 == w {
-            return Some(&pair.1);
-        }
-    }
-    None
 }
 
 /// The lists of the process of this number.

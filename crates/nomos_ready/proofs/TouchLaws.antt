@@ -1,5 +1,5 @@
 -- What a firing touches: the state after it is the one before but for what the instruction tells.
-use Rattle.std.proofs.Common.{◌==◌, if◌then◌else◌, ◌≡◌, ◌∙◌, ◌⊎◌, ◌+◌, inl, inr, ℕ, not, Bool, true, false, cond, List, [], ◌∷◌, ◌++◌, map, All, Contains, Option, Some, None, Ok, Err, slice_get, option_and_then, refl, sym, subst, ap, nat_le, arith}
+use Rattle.std.proofs.Common.{◌==◌, if◌then◌else◌, ◌≡◌, ◌∙◌, ◌⊎◌, inl, inr, ℕ, not, Bool, true, false, cond, List, [], ◌∷◌, ◌++◌, map, All, Contains, Option, Some, None, Ok, Err, slice_get, refl, sym, subst, ap, arith}
 use Rattle.std.proofs.lemmas.List.Elements.{All-nil, All-cons, All-head, All-contains, Contains-append_cases, Contains-append_left, Contains-append_right}
 use Rattle.std.specs.Option.{option_map, option_to_list}
 use Rattle.nomos_ir.specs.Bindings.{bound_to}
@@ -9,7 +9,6 @@ use Rattle.nomos_ir.specs.Value.{Value}
 use Rattle.nomos_ir.specs.declared.code_node.Chan.{Chan}
 use Rattle.nomos_ir.specs.declared.code_node.CodeNode.{CodeNode}
 use Rattle.nomos_ir.specs.declared.code_node.CodeNode.TheVariants as code
-use Rattle.nomos_ir.specs.declared.fault.Fault.{Fault}
 use Rattle.nomos_ir.specs.declared.ids.CodeId.{CodeId}
 use Rattle.nomos_ir.specs.declared.ids.TypeId.{TypeId}
 use Rattle.nomos_ir.specs.declared.ids.VarId.{VarId}
@@ -18,9 +17,9 @@ use Rattle.nomos_ir.specs.declared.mode.Mode.TheVariants as mode
 use Rattle.nomos_types.specs.Acceptance.{Acceptance, IsAccepted}
 use Rattle.nomos_types.specs.Amount.{dths}
 use Rattle.nomos_machine.specs.Change.{Change, put_at, put_all, changed}
-use Rattle.nomos_machine.specs.Deeds.{Deed, changes, has_fault, takes, sends, receives, hears_end, closes, forwards, takes_apart, deed_at, label_in, value_in, channel_in, potential_in, close_in, arm_for, one_of, lengthened, is_light, where_it_has}
+use Rattle.nomos_machine.specs.Deeds.{Deed, changes, takes, sends, receives, hears_end, closes, forwards, takes_apart, deed_at, label_in, value_in, channel_in, potential_in, close_in, arm_for, one_of, lengthened, is_light}
 use Rattle.nomos_machine.specs.Given.{given}
-use Rattle.nomos_machine.specs.Objects.{object_number, potential_of}
+use Rattle.nomos_machine.specs.Objects.{object_number}
 use Rattle.nomos_machine.specs.Optional.{◌>>=◌}
 use Rattle.nomos_machine.specs.Revised.{standing_at, under_name, with_channel, with_value, renamed, renamed_payload, uses_instead}
 use Rattle.nomos_machine.specs.Sight.{is_own, present_name, message_on, offering, user_of, after_acquire, accept_next, detach_next}
@@ -34,6 +33,7 @@ use Rattle.nomos_machine.specs.declared.object.Payload.{Payload}
 use Rattle.nomos_machine.specs.declared.object.PotentialList.{PotentialList}
 use Rattle.nomos_machine.specs.declared.object.Process.{Process}
 use Rattle.nomos_machine.proofs.ChangeLaws.{Replaces, done, further}
+use Rattle.nomos_machine.proofs.EachChangeLaws.{OfChange, OfDeed, change-some, change-bind, change-where, deed-does, deed-some, deed-bind, deed-either, deed-none, deed-fault}
 use Rattle.nomos_machine.proofs.DeedLaws.{deed-goes}
 use Rattle.nomos_machine.proofs.GoesLaws.{Goes, acts, faulty, waits}
 use Rattle.nomos_machine.proofs.PreservationLaws.{process_at-there}
@@ -263,55 +263,6 @@ module _ (a : Acceptance) (s : State) (p : Process) (touch : Touch) where
   abbrev IsTold : Change → Type 0
   IsTold c = ChangeTold s p touch c
 
-  record Tells (change : Option Change) : Type 0 where
-    each : (c : Change) → change ≡ Some c → IsTold c
-
-  record DeedTells (d : Option Deed) : Type 0 where
-    of_changes : (c : Change) → d ≡ Some (changes c) → IsTold c
-
-  tells-some : (c : Change) → IsTold c → Tells (Some c)
-  tells-some c told = record { each = λ d is. subst IsTold (same d is) told }
-    where
-      same : (d : Change) → Some c ≡ Some d → c ≡ d
-      same d is = cc
-
-  tells-bind : {X : Type 0} (o : Option X) (f : X → Option Change) → ((x : X) → o ≡ Some x → Tells (f x))
-      → Tells (option_and_then f o)
-  tells-bind None f rest = record { each = λ c is. absurd cc }
-  tells-bind (Some x) f rest = rest x refl
-
-  tells-where : (gas : ℕ) (change : Option Change) → Tells change → Tells (where_it_has gas p change)
-  tells-where gas change told = either (nat_le (gas + potential_of p) p.purse)
-    where
-      either : (b : Bool) → Tells (cond b change None)
-      either true = told
-      either false = record { each = λ c is. absurd cc }
-
-  deed-does : (change : Option Change) → Tells change → DeedTells (option_map changes change)
-  deed-does None told = record { of_changes = λ c is. absurd cc }
-  deed-does (Some d) told = record { of_changes = λ c is. told.each c (same c is) }
-    where
-      same : (c : Change) → Some (changes d) ≡ Some (changes c) → Some d ≡ Some c
-      same c is = cc
-
-  deed-some : (c : Change) → IsTold c → DeedTells (Some (changes c))
-  deed-some c told = deed-does (Some c) (tells-some c told)
-
-  deed-bind : {X : Type 0} (o : Option X) (f : X → Option Deed) → ((x : X) → o ≡ Some x → DeedTells (f x))
-      → DeedTells (option_and_then f o)
-  deed-bind None f rest = record { of_changes = λ c is. absurd cc }
-  deed-bind (Some x) f rest = rest x refl
-
-  deed-either : (b : Bool) (d e : Option Deed) → DeedTells d → DeedTells e → DeedTells (cond b d e)
-  deed-either true d e first second = first
-  deed-either false d e first second = second
-
-  deed-none : DeedTells None
-  deed-none = record { of_changes = λ c is. absurd cc }
-
-  deed-fault : (f : Fault) → DeedTells (Some (has_fault f))
-  deed-fault f = record { of_changes = λ c is. absurd cc }
-
   -- ---- places
 
   abbrev EachTold : List (ℕ × Option Object) → Type 0
@@ -347,10 +298,10 @@ module _ (a : Acceptance) (s : State) (p : Process) (touch : Touch) where
   -- ---- the kinds of change
 
   sends-told : (c : Chan) (brought : Payload) (gas : ℕ) (q : Process) (goes : Option TypeId) (next : CodeId)
-      → touch ≡ says_on p c → Tells (sends a s p c brought gas q goes next)
+      → touch ≡ says_on p c → OfChange IsTold (sends a s p c brought gas q goes next)
   sends-told c brought gas q goes next is_touch =
-      tells-bind (present_name p c) _ (λ from is.
-      tells-bind goes _ (λ t is_t. tells-some _ (record { places = own-alone _; comes = hears from is })))
+      change-bind (present_name p c) _ (λ from is.
+      change-bind goes _ (λ t is_t. change-some _ (record { places = own-alone _; comes = hears from is })))
     where
       hears : (from : ℕ) → present_name p c ≡ Some from → IsHeard touch (is_own c) from
       hears from is =
@@ -364,20 +315,20 @@ module _ (a : Acceptance) (s : State) (p : Process) (touch : Touch) where
     comes = tt;
   }
 
-  receives-told : (c : Chan) (reads : Payload → Process → Option Process) → Tells (receives a s p c reads)
+  receives-told : (c : Chan) (reads : Payload → Process → Option Process) → OfChange IsTold (receives a s p c reads)
   receives-told c reads =
-      tells-bind (present_name p c) _ (λ from is.
-      tells-bind (message_on s.objects (not (is_own c)) from) _ (λ m is_m.
-      tells-bind m.next _ (λ name is_name.
-      tells-bind (reads m.payload (under_name c name p)) _ (λ q is_q.
-      tells-some _ (takes-told m q (message_on-found (not (is_own c)) from m s.objects is_m).waiting)))))
+      change-bind (present_name p c) _ (λ from is.
+      change-bind (message_on s.objects (not (is_own c)) from) _ (λ m is_m.
+      change-bind m.next _ (λ name is_name.
+      change-bind (reads m.payload (under_name c name p)) _ (λ q is_q.
+      change-some _ (takes-told m q (message_on-found (not (is_own c)) from m s.objects is_m).waiting)))))
 
-  hears-told : (v : VarId) (next : CodeId) → Tells (hears_end a s p v next)
+  hears-told : (v : VarId) (next : CodeId) → OfChange IsTold (hears_end a s p v next)
   hears-told v next =
-      tells-bind (bound_to v.0 p.channels) _ (λ from is.
-      tells-bind (message_on s.objects true from) _ (λ m is_m.
-      tells-bind (close_in m.payload) _ (λ over is_over.
-      tells-some _ (takes-told m _ (message_on-found true from m s.objects is_m).waiting))))
+      change-bind (bound_to v.0 p.channels) _ (λ from is.
+      change-bind (message_on s.objects true from) _ (λ m is_m.
+      change-bind (close_in m.payload) _ (λ over is_over.
+      change-some _ (takes-told m _ (message_on-found true from m s.objects is_m).waiting))))
 
   closes-told : (at : ℕ) (m : Mode) → touch ≡ touch_at s p (code.Close at) → IsTold (closes a s p m)
   closes-told at mode.R is_touch =
@@ -483,85 +434,85 @@ module _ (a : Acceptance) (s : State) (p : Process) (touch : Touch) where
 
   -- ---- one line or some for each instruction
 
-  deed_at-told : (n : CodeNode) (vs : List Value) → touch ≡ touch_at s p n → DeedTells (deed_at a s p vs n)
+  deed_at-told : (n : CodeNode) (vs : List Value) → touch ≡ touch_at s p n → OfDeed IsTold (deed_at a s p vs n)
   deed_at-told (code.Label at c l next) vs is_touch = deed-does _ (sends-told c _ 0 p _ next is_touch)
   deed_at-told (code.Case at c arms) vs is_touch =
       deed-does _ (receives-told c (λ brought q.
       label_in brought >>= arm_for arms >>= λ next. Some (standing_at next q)))
   deed_at-told (code.Send at c y next) vs is_touch =
-      deed-does _ (tells-bind (bound_to y.0 p.channels) _ (λ name is. sends-told c _ 0 _ _ next is_touch))
+      deed-does _ (change-bind (bound_to y.0 p.channels) _ (λ name is. sends-told c _ 0 _ _ next is_touch))
   deed_at-told (code.Recv at c y next) vs is_touch =
       deed-does _ (receives-told c (λ brought q.
       channel_in brought >>= λ name. Some (standing_at next (with_channel y name q))))
   deed_at-told (code.Put at c e next) vs is_touch =
-      deed-does _ (tells-bind (one_of vs) _ (λ x is. sends-told c _ 0 p _ next is_touch))
+      deed-does _ (change-bind (one_of vs) _ (λ x is. sends-told c _ 0 p _ next is_touch))
   deed_at-told (code.Take at c v next) vs is_touch =
       deed-does _ (receives-told c (λ brought q.
       value_in brought >>= λ x. Some (standing_at next (with_value v x q))))
   deed_at-told (code.Pay at c r next) vs is_touch =
-      deed-does _ (tells-where (dths a.annotations r) _ (sends-told c _ _ _ _ next is_touch))
+      deed-does _ (change-where p (dths a.annotations r) _ (sends-told c _ _ _ _ next is_touch))
   deed_at-told (code.Get at c r next) vs is_touch =
       deed-does _ (receives-told c (λ brought q. potential_in brought >>= λ _. Some (standing_at next q)))
   deed_at-told (code.Work at r next) vs is_touch =
-      deed-does _ (tells-where (dths a.annotations r) _
-      (tells-some _ (record { places = own-alone _; comes = tt })))
+      deed-does _ (change-where p (dths a.annotations r) _
+      (change-some _ (record { places = own-alone _; comes = tt })))
   deed_at-told (code.Wait at v next) vs is_touch = deed-does _ (hears-told v next)
   deed_at-told (code.Accept at next) vs is_touch = deed-none
   deed_at-told (code.Detach at next) vs is_touch = deed-none
   deed_at-told (code.Acquire at r v next) vs is_touch =
-      deed-does _ (tells-bind (bound_to r.0 p.channels) _ (λ shared is.
-      tells-bind (offering s.objects shared) _ (λ other is_other.
-      tells-bind (slice_get a.program.code other.code.0) _ (λ n stands.
-      tells-bind (accept_next n) _ (λ onward is_onward.
-      tells-bind (node_of a.program s.types shared >>= after_acquire) _ (λ t is_t.
-      tells-some _ (record {
+      deed-does _ (change-bind (bound_to r.0 p.channels) _ (λ shared is.
+      change-bind (offering s.objects shared) _ (λ other is_other.
+      change-bind (slice_get a.program.code other.code.0) _ (λ n stands.
+      change-bind (accept_next n) _ (λ onward is_onward.
+      change-bind (node_of a.program s.types shared >>= after_acquire) _ (λ t is_t.
+      change-some _ (record {
         places =
             both-told _ other _ (meets-partner (bound_to r.0 p.channels) shared other is_touch is is_other);
         comes = tt;
       })))))))
   deed_at-told (code.Release at v r next) vs is_touch =
-      deed-does _ (tells-bind (bound_to v.0 p.channels) _ (λ name is.
-      tells-bind (offering s.objects name) _ (λ other is_other.
-      tells-bind (slice_get a.program.code other.code.0) _ (λ n stands.
-      tells-bind (detach_next n) _ (λ onward is_onward.
-      tells-bind other.base _ (λ shared is_base.
-      tells-some _ (record {
+      deed-does _ (change-bind (bound_to v.0 p.channels) _ (λ name is.
+      change-bind (offering s.objects name) _ (λ other is_other.
+      change-bind (slice_get a.program.code other.code.0) _ (λ n stands.
+      change-bind (detach_next n) _ (λ onward is_onward.
+      change-bind other.base _ (λ shared is_base.
+      change-some _ (record {
         places = both-told _ other _ (meets-partner (bound_to v.0 p.channels) name other is_touch is is_other);
         comes = tt;
       })))))))
   deed_at-told (code.Spawn at v f args next) vs is_touch =
       deed-bind (slice_get a.program.procs f.0) _ (λ d declared.
       deed-bind (given p vs args d) _ (λ g is_given.
-      deed-does _ (tells-where (dths a.annotations d.amount) _
-      (tells-some _ (record { places = own-alone _; comes = refl })))))
+      deed-does _ (change-where p (dths a.annotations d.amount) _
+      (change-some _ (record { places = own-alone _; comes = refl })))))
   deed_at-told (code.Let at v e next) vs is_touch =
-      deed-does _ (tells-bind (one_of vs) _ (λ x is. tells-some _ (record { places = own-alone _; comes = tt })))
+      deed-does _ (change-bind (one_of vs) _ (λ x is. change-some _ (record { places = own-alone _; comes = tt })))
   deed_at-told (code.Emit at e next) vs is_touch =
-      deed-does _ (tells-bind (one_of vs) _ (λ x is. tells-some _ (record { places = own-alone _; comes = tt })))
+      deed-does _ (change-bind (one_of vs) _ (λ x is. change-some _ (record { places = own-alone _; comes = tt })))
   deed_at-told (code.If at e then_next else_next) vs is_touch =
-      deed-does _ (tells-bind (one_of vs) _ (λ x is. tells-some _ (record { places = own-alone _; comes = tt })))
+      deed-does _ (change-bind (one_of vs) _ (λ x is. change-some _ (record { places = own-alone _; comes = tt })))
   deed_at-told (code.Close at) vs is_touch = deed-some _ (closes-told at p.mode is_touch)
   deed_at-told (code.Fwd at v) vs is_touch =
-      deed-does _ (tells-bind (bound_to v.0 p.channels) _ (λ name is.
-      tells-some _ (forwards-told at v name is_touch is)))
+      deed-does _ (change-bind (bound_to v.0 p.channels) _ (λ name is.
+      change-some _ (forwards-told at v name is_touch is)))
   deed_at-told (code.Call at f args) vs is_touch =
       deed-bind (slice_get a.program.procs f.0) _ (λ d declared.
       deed-bind (given p vs args d) _ (λ g is_given.
-      deed-does _ (tells-where (dths a.annotations d.amount) _
-      (tells-some _ (record { places = own-alone _; comes = tt })))))
+      deed-does _ (change-where p (dths a.annotations d.amount) _
+      (change-some _ (record { places = own-alone _; comes = tt })))))
   deed_at-told (code.Empty at v r kind next) vs is_touch =
       deed-some _ (record { places = own-alone _; comes = tt })
   deed_at-told (code.Add at v e w next) vs is_touch =
       deed-bind (one_of vs) _ (λ x is.
       deed-bind (bound_to w.0 p.lists) _ (λ l is_l.
       deed-either (is_light (lengthened x l)) _ _
-      (deed-does _ (tells-where l.amount _ (tells-some _ (record { places = own-alone _; comes = tt }))))
+      (deed-does _ (change-where p l.amount _ (change-some _ (record { places = own-alone _; comes = tt }))))
       (deed-fault _)))
   deed_at-told (code.Match at w empty_next head tail full_next) vs is_touch =
-      deed-does _ (tells-bind (bound_to w.0 p.lists) _ (λ l is.
-      tells-some _ (apart-told w empty_next head tail full_next l l.items)))
+      deed-does _ (change-bind (bound_to w.0 p.lists) _ (λ l is.
+      change-some _ (apart-told w empty_next head tail full_next l l.items)))
 
-  deed_by-told : (n : CodeNode) (values : TermsResult) → touch ≡ touch_at s p n → DeedTells (deed_by a s p n values)
+  deed_by-told : (n : CodeNode) (values : TermsResult) → touch ≡ touch_at s p n → OfDeed IsTold (deed_by a s p n values)
   deed_by-told n (Ok vs) is_touch = deed_at-told n vs is_touch
   deed_by-told n (Err f) is_touch = deed-fault f
 

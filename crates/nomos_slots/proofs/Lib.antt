@@ -5,16 +5,13 @@ pub mod EntryLemmas
 pub mod FillLemmas
 pub mod GapLaws
 pub mod GapLemmas
-pub mod LevelLemmas
 pub mod LogLemmas
 pub mod MarkLemmas
 pub mod NextLemmas
 pub mod NumberLaws
-pub mod PlacesLemmas
 pub mod ProbeLemmas
 pub mod RowLemmas
 pub mod SeatLemmas
 pub mod ShelfLemmas
 pub mod SweepLemmas
 pub mod UserLemmas
-pub mod WordLemmas

@@ -1,5 +1,5 @@
 -- Variables of one block that have no name.
-use Rattle.std.proofs.Common.{◌≡◌, ◌<◌, ◌≤◌, ◌*◌, ◌/◌, ◌^◌, ℕ, true, false, List, None, Some, length, sym, ap, arith}
+use Rattle.std.proofs.Common.{◌≡◌, ◌<◌, ◌≤◌, ◌*◌, ◌/◌, ◌^◌, ℕ, false, List, None, Some, length, ap, arith}
 use Rattle.std.proofs.lemmas.Bool.{false_from_ne_true}
 use Rattle.nomos_slots.specs.Cells.{Cell, IsProbed, block, cell_at, home, is_of, name_in, scattered}
 use Rattle.nomos_slots.specs.declared.cells.NamedVariable.{NamedVariable}

@@ -1,14 +1,9 @@
 pub mod Beside
 pub mod Cells
-pub mod Clearing
-pub mod Levels
 pub mod Log
-pub mod LowestPlace
 pub mod Marking
 pub mod Numbers
-pub mod PlaceSets
 pub mod Rows
-pub mod SeenPlaces
 pub mod Shelving
 pub mod Sweeps
 pub mod ChannelTables

@@ -1,5 +1,6 @@
 pub mod AgainLemmas
 pub mod BirthLemmas
+pub mod BitLemmas
 pub mod ChangingLemmas
 pub mod ChannelLemmas
 pub mod CloseLemmas
@@ -23,7 +24,6 @@ pub mod SumLemmas
 pub mod TidyLemmas
 pub mod TogetherLemmas
 pub mod UsingLemmas
-pub mod WalkLemmas
 pub mod RowLemmas
 pub mod RedirectLaws
 pub mod RedirectLemmas

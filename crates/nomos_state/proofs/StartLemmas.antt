@@ -17,7 +17,8 @@ use Rattle.nomos_state.specs.Indexed.{Holding}
 use Rattle.nomos_state.specs.Objects.{kept_in, object_of, process_held}
 use Rattle.nomos_state.specs.Sought.{StandsNotBefore, passes_at, some_passes, typed_at, typed_in}
 use Rattle.nomos_state.specs.SlotsOver.{AreNotOver}
-use Rattle.nomos_state.specs.IndexWalks.{is_over, is_owned_over}
+use Rattle.nomos_deeds.specs.ProcessWalks.{is_over}
+use Rattle.nomos_state.specs.IndexWalks.{is_owned_over}
 use Rattle.nomos_state.specs.declared.kept.Kept.{Kept}
 use Rattle.nomos_state.specs.declared.kept.Kept.TheVariants as kept
 

@@ -11,7 +11,7 @@ use Rattle.nomos_machine.specs.declared.object.Object.TheVariants as object
 use Rattle.nomos_deeds.specs.Readers.{stands_for}
 use Rattle.nomos_slots.specs.declared.numbered.Slot.{Slot}
 use Rattle.nomos_state.specs.Indexed.{Holding, standing_at}
-use Rattle.nomos_state.specs.IndexWalks.{is_over, is_transaction}
+use Rattle.nomos_deeds.specs.ProcessWalks.{is_over, is_transaction}
 use Rattle.nomos_state.specs.declared.sought.Sought.{Sought}
 use Rattle.nomos_state.specs.declared.sought.Sought.TheVariants as sought
 

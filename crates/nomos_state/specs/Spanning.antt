@@ -1,9 +1,13 @@
 -- Among which variables the channels of a process may stand.
-use Rattle.std.specs.Prelude.{◌≡◌, ◌≤◌, ◌+◌, ◌*◌, ◌/◌, ◌%◌, ◌^◌, ℕ, true, Option, Some, None}
-use Rattle.nomos_slots.specs.Levels.{has_bit}
+use Rattle.std.specs.Prelude.{◌≡◌, ◌≤◌, ◌==◌, ◌+◌, ◌*◌, ◌/◌, ◌%◌, ◌^◌, ℕ, Bool, true, Option, Some, None}
+use Rattle.std.specs.Int.{bit_at}
 use Rattle.nomos_state.specs.declared.kept.Kept.{Kept}
 use Rattle.nomos_state.specs.declared.kept.Kept.TheVariants as kept
 use Rattle.nomos_state.specs.declared.span.Span.{Span}
+
+-- whether a word has a bit
+abbrev pub has_bit : ℕ → ℕ → Bool
+has_bit word i = bit_at word i == 1
 
 -- The bit of the row of a variable: 128 that follow one another are in one row, and rows 64 apart have one bit.
 abbrev pub row_bit : ℕ → ℕ

@@ -5,6 +5,7 @@ ghost use Rattle.nomos_state.specs.Indexed.{HasSeats, held_now, nothing_held};
 ghost use Rattle.nomos_state.specs.Together.{NothingIsMarked};
 
 use crate::inside::{Columns, Inside, Numbers};
+use nomos_changes::process_lists::copy_lists;
 use nomos_ir::ids::VarId;
 use nomos_ir::value::Value;
 use nomos_machine::object::PotentialList;
@@ -25,24 +26,6 @@ pub(crate) fn copy_values(
     let mut made = Vec::new(alloc);
     for pair in values {
         made.push((pair.0, pair.1.copy()?))?;
-    }
-    Ok(made)
-}
-
-/// A copy of variables with their lists.
-pub(crate) fn copy_lists(
-    alloc: Global,
-    lists: &[(VarId, PotentialList)],
-) -> Result<Vec<(VarId, PotentialList)>, AllocError>
-    ensures { IfOk result (λ made. made.items ≡ lists.now) }
-{
-    let mut made = Vec::new(alloc);
-    for pair in lists {
-        let list = PotentialList {
-            amount: pair.1.amount,
-            items: pair.1.items.copy()?,
-        };
-        made.push((pair.0, list))?;
     }
     Ok(made)
 }

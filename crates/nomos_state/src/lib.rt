@@ -4,6 +4,7 @@
 
 mod accounts;
 mod binding;
+mod bits;
 mod changes;
 mod changing;
 mod closing;

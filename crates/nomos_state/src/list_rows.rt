@@ -6,11 +6,11 @@ ghost use Rattle.nomos_changes.specs.SmallChanges.{bound_if, unbound_if};
 ghost use Rattle.nomos_slots.specs.Rows.{IsFree};
 ghost use Rattle.nomos_state.specs.Objects.{FitsLists};
 
-use crate::copying::copy_lists;
 use crate::kept::KeptLists;
 use crate::value_rows::{count_below, is_bound_at};
 use crate::weights::{potential_beside, potential_with, potential_without};
 use nomos_changes::pairs::place_of;
+use nomos_changes::process_lists::copy_lists;
 use nomos_ir::ids::VarId;
 use nomos_machine::object::PotentialList;
 use nomos_slots::shelf::Shelf;

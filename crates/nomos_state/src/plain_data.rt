@@ -8,13 +8,14 @@ ghost use Rattle.nomos_state.specs.Looked.{lists_at, values_at};
 ghost use Rattle.nomos_state.specs.Objects.{channels_of, message_held, payload_of, process_held, types_of};
 ghost use Rattle.nomos_state.specs.Spanning.{HasVariable};
 
-use crate::copying::{copy_lists, copy_values};
+use crate::copying::copy_values;
 use crate::inside::{Columns, Inside};
 use crate::kept::{Kept, KeptMessage, KeptProcess};
 use crate::list_rows::lists_left;
 use crate::looking::kept_at;
 use crate::span::{Span, next_in};
 use crate::walking::typed_at;
+use nomos_changes::process_lists::copy_lists;
 use nomos_deeds::sight::SeenPayload;
 use nomos_ir::ids::{TypeId, VarId};
 use nomos_ir::items::Items;

@@ -8,11 +8,11 @@ ghost use Rattle.nomos_slots.specs.Cells.{name_in};
 ghost use Rattle.nomos_slots.specs.Sweeps.{instead_of};
 ghost use Rattle.nomos_state.specs.Spanning.{HasVariable, row_bit, rows_of};
 
+use crate::bits::{has_bit, with_bit};
 use crate::inside::Inside;
 use crate::long::WORDS;
 use crate::looking::process_at;
 use nomos_ir::ids::VarId;
-use nomos_slots::bits::{has_bit, with_bit};
 use nomos_slots::channels::Channels;
 
 /// How many variables that follow one another are in one row.

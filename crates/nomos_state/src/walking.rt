@@ -8,7 +8,8 @@ ghost use Rattle.nomos_machine.specs.Run.{IsNextReady, NoneReady};
 ghost use Rattle.nomos_machine.specs.TypedState.{IsTyped};
 ghost use Rattle.nomos_state.specs.Indexed.{IsHolding, held_now, standing_at, state_of};
 ghost use Rattle.nomos_state.specs.Sought.{IsFirstName, IsFirstPlace, passes_at, some_passes, typed_at};
-ghost use Rattle.nomos_state.specs.IndexWalks.{is_acquiring, is_over, is_owned_over, is_ready_in, purse_in};
+ghost use Rattle.nomos_deeds.specs.ProcessWalks.{is_acquiring, is_over, is_ready_in};
+ghost use Rattle.nomos_state.specs.IndexWalks.{is_owned_over, purse_in};
 
 use crate::inside::Columns;
 use crate::kept::Kept;

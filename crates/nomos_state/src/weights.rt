@@ -1,6 +1,5 @@
 //! How heavy a list that carries potential is, and what the elements of lists carry.
-ghost use Rattle.std.specs.Prelude.{◌≡◌, ◌≤◌, ◌+◌, ◌*◌, ◌^◌, ℕ, length, nat_le, option_copied, sum_by, IfSome, MatchOption, Some, slice_get};
-ghost use Rattle.nomos_ir.specs.Bindings.{bound_to};
+ghost use Rattle.std.specs.Prelude.{◌≡◌, ◌≤◌, ◌+◌, ◌*◌, ◌^◌, ℕ, length, nat_le, sum_by, IfSome, MatchOption, Some, slice_get};
 ghost use Rattle.nomos_ir.specs.ValueNode.{value_of};
 ghost use Rattle.nomos_machine.specs.Deeds.{is_light, lengthened};
 ghost use Rattle.nomos_machine.specs.declared.object.PotentialList.{PotentialList as Carrying};
@@ -140,16 +139,4 @@ pub(crate) fn affords(
         Some(left) => covers(lists, potential, left),
         None => false,
     }
-}
-
-/// The list of a variable.
-pub(crate) fn list_of(lists: &[(VarId, PotentialList)], w: VarId) -> Option<&PotentialList>
-    ensures { option_copied result ≡ bound_to w.0 lists.now }
-{
-    for pair in lists {
-        if pair.0 == w {
-            return Some(&pair.1);
-        }
-    }
-    None
 }

@@ -1,7 +1,7 @@
 //! How the tasks of a search are done, other than to find the kind of a term.
-ghost use Rattle.std.specs.Prelude.{◌≡◌, IsSome, OnOk, IsErrOf, MatchOption};
+ghost use Rattle.std.specs.Prelude.{◌≡◌, IsSome, OnOk, IsErrOf};
 ghost use Rattle.nomos_ir.specs.declared.lists.ProgramLists.{ProgramLists};
-ghost use Rattle.nomos_ir.specs.TermKind.{VariableKinds, list_kind};
+ghost use Rattle.nomos_ir.specs.TermKind.{VariableKinds};
 ghost use Rattle.nomos_terms.specs.declared.search.Task.TheVariants as task;
 ghost use Rattle.nomos_terms.specs.mirror.Left.{IsDone, IsVain, no_kind};
 
@@ -9,20 +9,6 @@ use crate::search::{NoKind, Search, Task, plan};
 use nomos_ir::ids::{TermId, VarId};
 use nomos_ir::kind::Kind;
 use nomos_ir::or_no_memory::OrNoMemory;
-
-/// The kind of a list's elements, where the kind is that of a list.
-fn element_of(kind: Kind) -> Option<Kind>
-    ensures { MatchOption result ((element : Kind) → kind ≡ list_kind element → ⊥)
-        (λ element. kind ≡ list_kind element) }
-{
-    if kind.lists == 0 {
-        return None;
-    }
-    Some(Kind {
-        lists: kind.lists - 1,
-        base: kind.base,
-    })
-}
 
 /// The kind found last is to be this one.
 pub(crate) fn expect(search: &mut Search, wanted: Kind) -> Result<(), OrNoMemory<NoKind>>
@@ -53,7 +39,7 @@ pub(crate) fn put_before(search: &mut Search) -> Result<(), OrNoMemory<NoKind>>
     let Some(element) = search.kinds.pop() else {
         return Err(OrNoMemory::Answer(NoKind));
     };
-    let Some(wanted) = element_of(list) else {
+    let Some(wanted) = list.element() else {
         return Err(OrNoMemory::Answer(NoKind));
     };
     if element != wanted {
@@ -115,7 +101,7 @@ pub(crate) fn take_apart(
     let Some(list) = search.kinds.pop() else {
         return Err(OrNoMemory::Answer(NoKind));
     };
-    let Some(element) = element_of(list) else {
+    let Some(element) = list.element() else {
         return Err(OrNoMemory::Answer(NoKind));
     };
     search.bound.push((head, element))?;

@@ -7,9 +7,9 @@ ghost use Rattle.nomos_ir.specs.ValueKind.{ValueHasKind};
 ghost use Rattle.nomos_typed.specs.Telling.{Tells};
 ghost use Rattle.nomos_typed.specs.mirror.ComparedWith.{IsTold, IsTypeIn, NameFits, program_of, amounts_in};
 
-use crate::data_kinds::has_kind;
 use crate::likeness::has_type;
 use crate::told::Told;
+use nomos_deeds::value_kinds::has_kind;
 use nomos_equality::equalities::Equalities;
 use nomos_ir::ids::{TypeId, VarId};
 use nomos_ir::kind::Kind;

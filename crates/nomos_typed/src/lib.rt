@@ -2,7 +2,6 @@
 #![tactic(auto)]
 
 mod both;
-mod data_kinds;
 pub mod fitting;
 pub mod founded;
 mod heads;

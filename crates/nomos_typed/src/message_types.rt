@@ -10,12 +10,12 @@ ghost use Rattle.nomos_typed.specs.mirror.MessageHeads.{SentFits, KindFits, Amou
 ghost use Rattle.nomos_typed.specs.mirror.ComparedWith.{acceptance_of, program_of, amounts_in};
 ghost use Rattle.nomos_typed.specs.mirror.ComparedWith.{IsTold, IsTypeIn, IsHeadIn, GoesOn};
 
-use crate::data_kinds::has_kind;
 use crate::heads::{due_by, goes_of, is_end, kind_by, label_fits, sent_by};
 use crate::likeness::has_type;
 use crate::told::Told;
 use crate::worth::same_worth;
 use nomos_contents::data::StateData;
+use nomos_deeds::value_kinds::has_kind;
 use nomos_equality::equalities::Equalities;
 use nomos_ir::amount::Amount;
 use nomos_ir::ids::TypeId;

@@ -13,13 +13,13 @@ ghost use Rattle.nomos_typed.specs.mirror.AtPlaces.{IsMarkedAt, MarksObject, Obj
 ghost use Rattle.nomos_typed.specs.mirror.ComparedWith.{IsTold, acceptance_of, program_of, amounts_in};
 
 use crate::both::{all_three, both};
-use crate::data_kinds::all_have_kind;
 use crate::fitting::{channels_fit, values_fit};
 use crate::likeness::has_type;
 use crate::purses::free_purse;
 use crate::told::{Told, is_mode};
 use crate::worth::same_worth;
 use nomos_contents::data::StateData;
+use nomos_deeds::value_kinds::all_have_kind;
 use nomos_equality::equalities::Equalities;
 use nomos_ir::ids::{CodeId, VarId};
 use nomos_machine::object::{Object, PotentialList, Process};

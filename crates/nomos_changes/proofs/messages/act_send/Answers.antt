@@ -15,7 +15,7 @@ returns-in-Some-clause-ok g c a can =
     let s = g.P.Sight.state c.args.parts.now in
     let send = c.args.send in
     let pid = c.args.pid in
-    let acts = can-acts a s pid c.args.values (act.Send send.channel send.sending send.goes send.next) can in
+    let acts = can-acts a s pid c.args.values (act.Send send) can in
     let p = acts.process in
     let sent = sending-is a s p send.channel send.goes send.next send.sending c.args.values acts.change acts.changes in
     let told : Some c.in-Some.payload ≡ brought_by send.sending c.args.values =
@@ -38,7 +38,7 @@ pub returns-in-None-clause-ok : goal.returns-in-None-clause-ok
 returns-in-None-clause-ok g c a can =
     let s = g.P.Sight.state c.args.parts.now in
     let send = c.args.send in
-    let acts = can-acts a s c.args.pid c.args.values (act.Send send.channel send.sending send.goes send.next) can in
+    let acts = can-acts a s c.args.pid c.args.values (act.Send send) can in
     let sent = sending-is a s acts.process send.channel send.goes send.next send.sending c.args.values acts.change
     acts.changes in
     let told : None ≡ brought_by send.sending c.args.values = sym c.in-None.is ∙ c.in_ok-payload.ensures in

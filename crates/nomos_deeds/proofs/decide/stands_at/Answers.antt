@@ -1,5 +1,5 @@
 -- The process of the number stands where what is seen of it does.
-use Rattle.std.proofs.Common.{◌∙◌, Some, None, sym, ap, option_copied}
+use Rattle.std.proofs.Common.{◌∙◌, Some, sym, ap, option_copied}
 use Rattle.nomos_deeds.specs.declared.sight.SeenProcess.{SeenProcess}
 use Rattle.nomos_deeds.proofs.DecisionLemmas.{seen-is, stands-seen}
 use Rattle.nomos_deeds.proofs.decide.stands_at.Goals as goal

@@ -1,4 +1,4 @@
-use Rattle.nomos_plain.proofs.WalkLemmas.{names-next}
+use Rattle.nomos_deeds.proofs.WalkLaws.{names-next}
 use Rattle.nomos_plain.proofs.readers.next_owned.Goals as goal
 
 pub returns : goal.returns

@@ -1,10 +1,10 @@
 use Rattle.std.proofs.Common.{option_and_then, sym}
 use Rattle.nomos_state.specs.Indexed.{held_now, standing_at, state_of}
-use Rattle.nomos_state.specs.IndexWalks.{is_over, is_transaction}
+use Rattle.nomos_deeds.specs.ProcessWalks.{is_over, is_transaction}
 use Rattle.nomos_state.proofs.LookLemmas.{state-in_order}
 use Rattle.nomos_state.proofs.SeekLemmas.{first-found}
 use Rattle.nomos_state.proofs.StartLemmas.{none-before}
-use Rattle.nomos_state.proofs.WalkLemmas.{transactions-next}
+use Rattle.nomos_deeds.proofs.WalkLaws.{transactions-next}
 use Rattle.nomos_state.proofs.sought.next_transaction.Goals as goal
 
 pub first_from-requires : goal.first_from-requires

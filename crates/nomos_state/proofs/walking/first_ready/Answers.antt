@@ -1,6 +1,6 @@
 use Rattle.std.proofs.Common.{arith}
 use Rattle.nomos_state.specs.Indexed.{held_now}
-use Rattle.nomos_state.specs.IndexWalks.{is_over, is_ready_in}
+use Rattle.nomos_deeds.specs.ProcessWalks.{is_over, is_ready_in}
 use Rattle.nomos_state.proofs.StartLemmas.{none-at_all, none-before}
 use Rattle.nomos_state.proofs.walking.first_ready.Goals as goal
 

@@ -6,7 +6,7 @@ use Rattle.nomos_state.specs.Indexed.{held_now}
 use Rattle.nomos_state.specs.Looked.{lists_at, values_at}
 use Rattle.nomos_state.specs.Objects.{kept_at, process_held}
 use Rattle.nomos_state.specs.Sought.{some_passes}
-use Rattle.nomos_state.specs.IndexWalks.{is_acquiring, is_over}
+use Rattle.nomos_deeds.specs.ProcessWalks.{is_acquiring, is_over}
 use Rattle.nomos_state.specs.declared.kept.Kept.TheVariants as kept
 use Rattle.nomos_state.proofs.SeekLemmas.{process-standing}
 use Rattle.nomos_state.proofs.walking.is_acquiring_at.Goals as goal

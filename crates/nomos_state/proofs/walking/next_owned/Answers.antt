@@ -4,7 +4,7 @@ use Rattle.nomos_state.specs.Sought.{typed_at}
 use Rattle.nomos_state.specs.IndexWalks.{is_owned_over}
 use Rattle.nomos_state.proofs.LookLemmas.{types-in_order}
 use Rattle.nomos_state.proofs.SumLemmas.{name-found}
-use Rattle.nomos_state.proofs.WalkLemmas.{names-next}
+use Rattle.nomos_deeds.proofs.WalkLaws.{names-next}
 use Rattle.nomos_state.proofs.walking.next_owned.Goals as goal
 
 pub returns : goal.returns

@@ -1,9 +1,9 @@
 use Rattle.std.proofs.Common.{option_and_then, sym, ap}
 use Rattle.nomos_machine.specs.State.{State}
 use Rattle.nomos_state.specs.Indexed.{held_now, standing_at, state_of}
-use Rattle.nomos_state.specs.IndexWalks.{is_over, is_ready_in}
+use Rattle.nomos_deeds.specs.ProcessWalks.{is_over, is_ready_in}
 use Rattle.nomos_state.proofs.SeekLemmas.{first-found}
-use Rattle.nomos_state.proofs.WalkLemmas.{ready-next}
+use Rattle.nomos_deeds.proofs.WalkLaws.{ready-next}
 use Rattle.nomos_state.proofs.walking.next_ready.Goals as goal
 
 pub returns : goal.returns

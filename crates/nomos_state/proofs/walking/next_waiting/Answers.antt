@@ -1,9 +1,9 @@
 use Rattle.std.proofs.Common.{option_and_then, sym}
 use Rattle.nomos_state.specs.Indexed.{held_now, standing_at, state_of}
-use Rattle.nomos_state.specs.IndexWalks.{is_acquiring, is_over}
+use Rattle.nomos_deeds.specs.ProcessWalks.{is_acquiring, is_over}
 use Rattle.nomos_state.proofs.LookLemmas.{state-in_order}
 use Rattle.nomos_state.proofs.SeekLemmas.{first-found}
-use Rattle.nomos_state.proofs.WalkLemmas.{waiting-next}
+use Rattle.nomos_deeds.proofs.WalkLaws.{waiting-next}
 use Rattle.nomos_state.proofs.walking.next_waiting.Goals as goal
 
 pub returns : goal.returns

@@ -1,8 +1,8 @@
 use Rattle.std.proofs.Common.{◌==◌, cond}
 use Rattle.std.proofs.Common.{ap, ◌∙◌, sym}
-use Rattle.nomos_slots.specs.Levels.{has_bit}
-use Rattle.nomos_slots.proofs.WordLemmas.{has_bit-set, has_bit-clear}
-use Rattle.nomos_slots.proofs.bits.with_bit.Goals as goal
+use Rattle.nomos_state.specs.Spanning.{has_bit}
+use Rattle.nomos_state.proofs.BitLemmas.{has_bit-set, has_bit-clear}
+use Rattle.nomos_state.proofs.bits.with_bit.Goals as goal
 
 pub returns-then-set : goal.returns-then-set
 returns-then-set c = λ i below. has_bit-set c.args.word c.args.at i c.requires below

@@ -23,11 +23,11 @@ use Rattle.nomos_machine.proofs.NameLaws.{type_of-first, type_of-further}
 use Rattle.nomos_machine.proofs.PutLaws.{InOrder, contains-one, object_at-found, object_at-own}
 use Rattle.nomos_deeds.specs.Acts.{if_some_ready, looks_ready_at}
 use Rattle.nomos_deeds.specs.Lowest.{FindsNext}
+use Rattle.nomos_deeds.specs.ProcessWalks.{is_acquiring, is_over, is_ready_in, is_transaction}
 use Rattle.nomos_deeds.specs.Readers.{IsLinearName, IsLinearType, IsTransaction, IsWaiting, acquires, is_of_mode_t, looks_linear}
 use Rattle.nomos_deeds.proofs.FireLaws.{looks-ready}
 use Rattle.nomos_deeds.proofs.LinearNameLaws.{looks-linear}
 use Rattle.nomos_deeds.proofs.LowestLaws.{finds-next, next-ready, over-each}
-use Rattle.nomos_state.specs.IndexWalks.{is_acquiring, is_over, is_ready_in, is_transaction}
 
 -- ---- tests
 
