@@ -137,8 +137,8 @@ def of_types():
     yield accepted("cycles of 1,500 and 1,501 nodes, asked from 1,000 places", asked_again(1500, 1501, 1000))
     yield refused("cycles of 4,700 nodes that differ at their ends", astray(4700), 1, "refused ProcType")
     yield accepted("four cycles of some 2,370 choices, each as each other", each_as_each([2370, 2369, 2367, 2363]))
-    yield accepted("200 shared types over one section, which ends in each of them", one_section(200))
-    yield Row("100 calls, each of one reference as 100 equal types", handed_references(100), None, [], 0, "bound")
+    yield accepted("1,600 shared types over one section, which ends in each of them", one_section(1600))
+    yield Row("400 calls, each of one reference as 400 equal types", handed_references(400), None, [], 0, "bound")
 
 
 # ---- values
